@@ -53,11 +53,6 @@ pub fn has_number<T: Numbered>(found: Option<&T>, number: u64) -> bool {
     }
 }
 
-/// What a container answers that doesn't have this call, or is full: the checks name the call, which was refused nothing.
-pub fn no_such_call<T>() -> Result<T, AllocError> {
-    Err(AllocError)
-}
-
 /// What a call handed out that always has something to do.
 pub fn always_some<S: Drop>(made: Result<S, AllocError>) -> Result<Option<S>, AllocError> {
     match made {

@@ -1,4 +1,4 @@
-//! How much memory a call asks for among 10,000 entries.
+//! How much memory a call asks for among many entries.
 use crate::failure::{Failure, Part, check_freed};
 use crate::plan::{LargeContainer, MemoryRow, Plan, Sharing};
 use crate::row::Came;
@@ -7,13 +7,13 @@ use rpds_faults::{Faults, clones, requests};
 use std::alloc::AllocError;
 
 // The container, filled.
-fn ten_thousand<'t, K, C: Copy, S: Subject<'t, K, C>>(
+fn large_container<'t, K, C: Copy, S: Subject<'t, K, C>>(
     faults: &'t Faults,
     put: C,
     large: &LargeContainer,
 ) -> Result<S, AllocError> {
     let mut container = S::start(large.variant, faults)?;
-    for index in 0..10_000u64 {
+    for index in 0..large.count {
         let number = index.wrapping_mul(large.step) % large.limit.max(1);
         container.perform(put, number, faults)?;
     }
@@ -105,14 +105,35 @@ fn check_rows<'r, 't, K, C: Copy, S: Subject<'t, K, C>>(
     Ok(())
 }
 
-/// Counts what the calls of each row ask for on each large container. None asks for more than the row says.
+/// Counts what the calls of each row ask for on a large container. None asks for more than the row says.
+pub fn check_large<'r, 't, K, C: Copy, S: Subject<'t, K, C>>(
+    faults: &'t Faults,
+    put: C,
+    large: &LargeContainer,
+    rows: &[MemoryRow<'r, C>],
+) -> Result<(), Failure<'r, C>> {
+    check_rows_of::<K, C, S>(faults, put, large, rows)?;
+    check_freed(faults, Part::Limits)
+}
+
+// Makes the container, which is dropped at the end.
+fn check_rows_of<'r, 't, K, C: Copy, S: Subject<'t, K, C>>(
+    faults: &'t Faults,
+    put: C,
+    large: &LargeContainer,
+    rows: &[MemoryRow<'r, C>],
+) -> Result<(), Failure<'r, C>> {
+    let mut container = large_container::<K, C, S>(faults, put, large)?;
+    check_rows::<K, C, S>(faults, &mut container, rows)
+}
+
+/// The same of each large container of the plan.
 pub fn check_limits<'r, 't, K, C: Copy, S: Subject<'t, K, C>>(
     faults: &'t Faults,
     plan: &Plan<'r, C>,
 ) -> Result<(), Failure<'r, C>> {
     for (large, rows) in plan.limits {
-        let mut container = ten_thousand::<K, C, S>(faults, plan.put, large)?;
-        check_rows::<K, C, S>(faults, &mut container, rows)?;
+        check_large::<K, C, S>(faults, plan.put, large, rows)?;
     }
-    check_freed(faults, Part::Limits)
+    Ok(())
 }

@@ -63,7 +63,8 @@ pub struct Plan<'r, C> {
     pub receivers: &'r [Receiver<'r>],
     /// The items or keys at which the calls are made.
     pub numbers: &'r [u64],
-    /// The calls that ask for memory or for a clone, each on one of the receivers at least.
+    /// The calls that ask for memory or for a clone, each on one of the receivers at least, but for those that a test checks by
+    /// itself.
     pub calls: &'r [C],
     /// The calls that ask for neither, on any receiver.
     pub never_refused: &'r [C],
@@ -71,7 +72,7 @@ pub struct Plan<'r, C> {
     pub empty_without_memory: &'r [u8],
     /// Calls for which no memory is needed.
     pub without_memory: &'r [NoMemoryRow<'r, C>],
-    /// Receivers of 10,000 numbers, and the calls on each of which requests and bytes are counted.
+    /// Large receivers, and the calls on each of which requests and bytes are counted.
     pub limits: &'r [(LargeContainer, &'r [MemoryRow<'r, C>])],
 }
 
@@ -86,11 +87,13 @@ pub enum Sharing {
     Alone,
 }
 
-/// A container of 10,000 numbers, put in one by one: the multiples of `step`, modulo `limit`.
+/// A container of many numbers, put in one by one: the first multiples of `step`, modulo `limit`.
 #[derive(Drop)]
 pub struct LargeContainer {
     /// How the container is made.
     pub variant: u8,
+    /// How many numbers are put in: 10,000, but where the shape that matters takes fewer.
+    pub count: u64,
     /// How far each number is above the one before.
     pub step: u64,
     /// What all numbers are below.

@@ -139,16 +139,26 @@ pub fn refusals<'r, 't, K, C: Copy, S: Subject<'t, K, C>>(
     Ok(count)
 }
 
+/// Makes each of the calls so, which are refused some.
+pub fn check_some_refused<'r, 't, K, C: Copy, S: Subject<'t, K, C>>(
+    faults: &'t Faults,
+    plan: &Plan<'r, C>,
+    calls: &[C],
+) -> Result<(), Failure<'r, C>> {
+    for call in calls {
+        if refusals::<K, C, S>(faults, plan, *call)? == 0 {
+            return Err(Failure::NoneRefused(*call));
+        }
+    }
+    Ok(())
+}
+
 /// Makes each call of the plan so. Those that need memory or a clone are refused some, the others none.
 pub fn check_refused<'r, 't, K, C: Copy, S: Subject<'t, K, C>>(
     faults: &'t Faults,
     plan: &Plan<'r, C>,
 ) -> Result<(), Failure<'r, C>> {
-    for call in plan.calls {
-        if refusals::<K, C, S>(faults, plan, *call)? == 0 {
-            return Err(Failure::NoneRefused(*call));
-        }
-    }
+    check_some_refused::<K, C, S>(faults, plan, plan.calls)?;
     for call in plan.never_refused {
         if refusals::<K, C, S>(faults, plan, *call)? != 0 {
             return Err(Failure::SomeRefused(*call));

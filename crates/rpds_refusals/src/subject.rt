@@ -16,7 +16,7 @@ pub trait Subject<'t, K, C>: Sized + Drop {
     /// Whether both hold the same, and look-ups in both take the same steps.
     fn is_as(&self, twin: &Self, faults: &'t Faults) -> bool;
 
-    /// How many items it holds where nothing shares its nodes, if that can be told.
+    /// How many items it holds where nothing shares its nodes, if that can be known.
     fn held(&self) -> Option<u64>;
 
     /// Makes the call. What it hands out takes the receiver's place. Answers whether there was something to do.

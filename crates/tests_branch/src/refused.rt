@@ -1,6 +1,7 @@
 //! Each call of a branch that takes memory or clones, with each allocation and each clone refused in turn.
 use crate::Tests;
 use rpds_branch::branch::Branch;
+use rpds_core::steps::Steps;
 use rpds_faults::{FailingAllocator, FailingItem, Faults};
 use rpds_refusals::answer::{always_true, handed_on, put_in_place};
 use rpds_refusals::check::check_calls;
@@ -17,11 +18,11 @@ type FailingMap<'t> = RedBlackTreeMap<FailingItem<'t>, FailingItem<'t>, &'t Fail
 
 type FailingBranch<'t> = Branch<FailingItem<'t>, FailingItem<'t>, &'t FailingAllocator>;
 
-/// A call of a branch.
+// A call of a branch.
 #[derive(Clone, Copy, Debug)]
 enum BranchCall {
     New,
-    /// An insertion in place, and at 0 a new branch off the current map.
+    // An insertion in place, and at 0 a new branch off the current map.
     Put,
     Insert,
     Remove,
@@ -30,13 +31,19 @@ enum BranchCall {
     UpdateInPlace,
     Revert,
     RevertInPlace,
+    RevertInPlaceCounted,
     CopyFrom,
     CopyFromInPlace,
     MergeOurs,
+    MergeOursCounted,
     Merge,
-    /// With a closure that fails.
+    MergeCounted,
+    // With a closure that fails.
     FailingMerge,
     Rebase,
+    RebaseCounted,
+    ListChanges,
+    ListChangesCounted,
     Look,
     Share,
     Cloned,
@@ -74,6 +81,31 @@ fn merged_ours<'t>(
         Ok(merged) => merged.branch.clone(),
         Err(error) => Err(error),
     }
+}
+
+fn merged_ours_counted<'t>(
+    branch: &FailingBranch<'t>,
+    number: u64,
+    faults: &'t Faults,
+) -> Result<FailingBranch<'t>, AllocError> {
+    let theirs = theirs(branch, number, faults)?;
+    match branch.merge_ours_counted(&theirs, &mut Steps::new()) {
+        Ok(merged) => merged.branch.clone(),
+        Err(error) => Err(error),
+    }
+}
+
+fn merged_counted<'t>(
+    branch: &FailingBranch<'t>,
+    number: u64,
+    faults: &'t Faults,
+) -> Result<FailingBranch<'t>, AllocError> {
+    let theirs = theirs(branch, number, faults)?;
+    branch.merge_counted(
+        &theirs,
+        |_key, _base, _ours, _theirs| Ok(Some(FailingItem::new(55, &faults.counts))),
+        &mut Steps::new(),
+    )
 }
 
 fn merged<'t>(
@@ -114,6 +146,18 @@ fn rebased<'t>(
     }
 }
 
+fn rebased_counted<'t>(
+    branch: &FailingBranch<'t>,
+    number: u64,
+    faults: &'t Faults,
+) -> Result<FailingBranch<'t>, AllocError> {
+    let theirs = theirs(branch, number, faults)?;
+    match theirs.rebase_counted(branch.current(), &mut Steps::new()) {
+        Ok(rebased) => rebased.branch.clone(),
+        Err(error) => Err(error),
+    }
+}
+
 // The branch that a call hands out.
 fn made<'t>(
     branch: &FailingBranch<'t>,
@@ -130,8 +174,11 @@ fn made<'t>(
         BranchCall::Revert => branch.revert(&key),
         BranchCall::CopyFrom => branch.copy_from(&other(number, faults)?, &key),
         BranchCall::MergeOurs => merged_ours(branch, number, faults),
+        BranchCall::MergeOursCounted => merged_ours_counted(branch, number, faults),
         BranchCall::Merge => merged(branch, number, faults),
+        BranchCall::MergeCounted => merged_counted(branch, number, faults),
         BranchCall::Rebase => rebased(branch, number, faults),
+        BranchCall::RebaseCounted => rebased_counted(branch, number, faults),
         BranchCall::Share => branch.clone(),
         BranchCall::Cloned => Clone::clone(branch),
         _ => Branch::new(branch.current()),
@@ -151,10 +198,21 @@ fn changed<'t>(
         BranchCall::RemoveInPlace => branch.remove_mut(&key),
         BranchCall::UpdateInPlace => always_true(branch.update_mut(key, |_| Ok(value))),
         BranchCall::RevertInPlace => always_true(branch.revert_mut(&key)),
+        BranchCall::RevertInPlaceCounted => {
+            always_true(branch.revert_mut_counted(&key, &mut Steps::new()))
+        }
         BranchCall::CopyFromInPlace => always_true(branch.copy_from_mut(
             &other(number, faults)?,
             &key,
         )),
+        BranchCall::ListChanges => match branch.list_changes() {
+            Ok(changes) => Ok(!changes.is_empty()),
+            Err(error) => Err(error),
+        },
+        BranchCall::ListChangesCounted => match branch.list_changes_counted(&mut Steps::new()) {
+            Ok(changes) => Ok(!changes.is_empty()),
+            Err(error) => Err(error),
+        },
         BranchCall::Look => Ok(branch.is_changed() == branch.changes().next().is_some()),
         _ => always_true(branch.insert_mut(key, value)),
     }
@@ -195,7 +253,10 @@ impl<'t> Subject<'t, Tests, BranchCall> for FailingBranch<'t> {
             | BranchCall::RemoveInPlace
             | BranchCall::UpdateInPlace
             | BranchCall::RevertInPlace
+            | BranchCall::RevertInPlaceCounted
             | BranchCall::CopyFromInPlace
+            | BranchCall::ListChanges
+            | BranchCall::ListChangesCounted
             | BranchCall::Look => changed(self, call, number, faults),
             BranchCall::FailingMerge => fails_to_merge(self, number, faults),
             _ => {
@@ -220,12 +281,18 @@ const PLAN: Plan<'static, BranchCall> = Plan {
         BranchCall::UpdateInPlace,
         BranchCall::Revert,
         BranchCall::RevertInPlace,
+        BranchCall::RevertInPlaceCounted,
         BranchCall::CopyFrom,
         BranchCall::CopyFromInPlace,
         BranchCall::MergeOurs,
+        BranchCall::MergeOursCounted,
         BranchCall::Merge,
+        BranchCall::MergeCounted,
         BranchCall::FailingMerge,
         BranchCall::Rebase,
+        BranchCall::RebaseCounted,
+        BranchCall::ListChanges,
+        BranchCall::ListChangesCounted,
     ],
     never_refused: &[
         BranchCall::New,
@@ -241,6 +308,7 @@ const PLAN: Plan<'static, BranchCall> = Plan {
 // The base is empty, and the other 9,999 numbers are put in.
 const LARGE: LargeContainer = LargeContainer {
     variant: 0,
+    count: 10_000,
     step: 1,
     limit: 10_000,
 };
@@ -272,6 +340,14 @@ const SETTLED: u64 = 2 * (INSERTED + REMOVED) + 6;
 
 const MERGED: u64 = UNITED + SETTLED;
 
+// A list of the 9,999 changes has four places at first, and twice as many whenever it is full, so that the last list has 16,384, and
+// all together have fewer than twice as many. A change takes a tag and three references.
+const LISTS: u64 = 13;
+
+const LISTED: u64 = 16_384;
+
+const CHANGE: u64 = 32;
+
 const ROWS: &[MemoryRow<'static, BranchCall>] = &[
     memory!(
         Shared,
@@ -281,13 +357,22 @@ const ROWS: &[MemoryRow<'static, BranchCall>] = &[
     ),
     memory!(Shared, calls: &[BranchCall::Remove, BranchCall::RemoveInPlace], at: PLACES,
         requests: 1 + REMOVED + INSERTED, bytes: PAIR + (REMOVED + INSERTED) * NODE),
-    memory!(Shared, calls: &[BranchCall::Revert, BranchCall::RevertInPlace], at: PLACES,
-        requests: 2 * REMOVED, bytes: 2 * REMOVED * NODE),
+    memory!(
+        Shared,
+        calls: &[BranchCall::Revert, BranchCall::RevertInPlace, BranchCall::RevertInPlaceCounted],
+        at: PLACES, requests: 2 * REMOVED, bytes: 2 * REMOVED * NODE
+    ),
     memory!(Shared, calls: &[BranchCall::CopyFrom, BranchCall::CopyFromInPlace], at: PLACES,
         requests: 4 + 2 * INSERTED, bytes: OTHER + 2 * INSERTED * NODE),
-    memory!(Shared, calls: &[BranchCall::Merge, BranchCall::MergeOurs], at: PLACES,
-        requests: 4 + MERGED, bytes: 4 * PAIR + MERGED * NODE),
-    memory!(Shared, calls: &[BranchCall::Rebase], at: &[17, 10_001],
+    memory!(
+        Shared,
+        calls: &[BranchCall::Merge, BranchCall::MergeCounted, BranchCall::MergeOurs,
+            BranchCall::MergeOursCounted],
+        at: PLACES, requests: 4 + MERGED, bytes: 4 * PAIR + MERGED * NODE
+    ),
+    memory!(Shared, calls: &[BranchCall::ListChanges, BranchCall::ListChangesCounted], at: &[7],
+        requests: LISTS, bytes: 2 * LISTED * CHANGE),
+    memory!(Shared, calls: &[BranchCall::Rebase, BranchCall::RebaseCounted], at: &[17, 10_001],
         requests: 4 + SETTLED, bytes: 4 * PAIR + SETTLED * NODE),
     memory!(Shared, calls: &[BranchCall::New, BranchCall::Share, BranchCall::Cloned], at: &[7],
         limit: NOTHING),

@@ -1,9 +1,12 @@
 //! Random branches beside std's maps: what changed beside the difference of the whole maps, and merges beside a merge key by key.
 //! And the requests of a change.
-use rpds_branch::branch::Branch;
+use rpds_branch::branch::{Branch, Changes, Merged};
+use rpds_core::steps::Steps;
 use rpds_faults::{FailingAllocator, Numbers, requests};
-use rpds_tree::map::red_black_tree_map::RedBlackTreeMap;
+use rpds_tree::map::red_black_tree_map::{MapChange, RedBlackTreeMap};
+use std::cell::Cell;
 use std::collections::BTreeMap;
+use std::iter::FusedIterator;
 use std::process::Abort;
 
 type NumberMap = RedBlackTreeMap<u64, u64>;
@@ -111,6 +114,21 @@ fn assert_changes(rt: &impl Abort, branch: &NumberBranch) {
     }
     assert!(rt; whole.next().is_none());
     assert!(rt; branch.is_changed() == branch.changes().next().is_some());
+    assert_listed(rt, branch);
+}
+
+// The list of the changes has those of the walk.
+fn assert_listed(rt: &impl Abort, branch: &NumberBranch) {
+    let listed = branch.list_changes().expect(rt, "ample memory");
+    let counted = branch
+        .list_changes_counted(&mut Steps::new())
+        .expect(rt, "ample memory");
+    assert!(rt; listed == counted);
+    let mut told = listed.iter();
+    for change in branch.changes() {
+        assert!(rt; told.next() == Some(&change));
+    }
+    assert!(rt; told.next().is_none());
 }
 
 // What a key has, in the order base, ours, theirs.
@@ -157,7 +175,28 @@ fn assert_merged_by_maps(rt: &impl Abort, ours: &Both, theirs: &Both, settled: &
     assert!(rt; whole == *settled);
 }
 
-// Each key has what a merge key by key gives it, and the conflicts are told in order.
+// A merge of the whole maps that leaves conflicts gives the same, and lists the same conflicts.
+fn assert_left_by_maps(rt: &impl Abort, ours: &Both, theirs: &Both, left: &Merged<'_, u64, u64>) {
+    let base = ours.branch.base();
+    let (ours, theirs) = (ours.branch.current(), theirs.branch.current());
+    let whole = base.merge_ours(ours, theirs).expect(rt, "ample memory");
+    assert!(rt; whole.map == *left.branch.current());
+    assert!(rt; whole.conflicts == left.conflicts);
+}
+
+// A merge asks once at each conflict, and at no other key.
+fn assert_asked_once(rt: &impl Abort, ours: &Both, theirs: &Both, conflicts: usize) {
+    let calls = Cell::new(0usize);
+    let settled = ours
+        .branch
+        .merge(&theirs.branch, |_key, _base, _ours, _theirs| {
+            calls.set(calls.get().wrapping_add(1));
+            Ok(None)
+        });
+    assert!(rt; settled.is_ok() && calls.get() == conflicts);
+}
+
+// Each key has what a merge key by key gives it, and the conflicts are listed in order.
 fn assert_merged(rt: &(impl Abort + AllocGlobal), ours: &Both, theirs: &Both) {
     let left = ours
         .branch
@@ -170,6 +209,8 @@ fn assert_merged(rt: &(impl Abort + AllocGlobal), ours: &Both, theirs: &Both) {
         })
         .expect(rt, "ample memory");
     assert_merged_by_maps(rt, ours, theirs, settled.current());
+    assert_left_by_maps(rt, ours, theirs, &left);
+    assert_asked_once(rt, ours, theirs, left.conflicts.len());
     let mut conflicts = left.conflicts.iter();
     for key in 0..KEYS {
         let (base, our, their) = values(&ours.branch, &theirs.plain, key);
@@ -237,6 +278,11 @@ fn assert_rebased(rt: &impl Abort, branch: &NumberBranch, onto: &NumberMap, want
     assert!(rt; conflicts.next() == Some(&&4));
     assert!(rt; conflicts.next().is_none());
     assert_changes(rt, &rebased.branch);
+    let counted = branch
+        .rebase_counted(onto, &mut Steps::new())
+        .expect(rt, "ample memory");
+    assert!(rt; counted.branch.base() == onto && counted.branch.current() == wanted);
+    assert!(rt; counted.conflicts == rebased.conflicts);
 }
 
 #[test]
@@ -246,6 +292,32 @@ fn a_branch_goes_to_another_map(rt: HostRuntime) {
     let wanted = map_of(&rt, &[(1, 11), (3, 33), (4, 44)]);
     let branch = changed_branch(&rt, &base);
     assert_rebased(&rt, &branch, &onto, &wanted);
+}
+
+// Whether the walk gives nothing more.
+fn is_over<T: Drop, I: FusedIterator<Item = T>>(walk: &mut I) -> bool
+    requires { I.can_next walk.now }
+{
+    walk.next().is_none()
+}
+
+// The walk gives the last two changes of `changed_branch`, and nothing behind them.
+fn assert_last_two(rt: &impl Abort, mut walk: Changes<'_, u64, u64>) {
+    assert!(rt; walk.next() == Some(MapChange::Removed(&2, &20)));
+    assert!(rt; walk.next() == Some(MapChange::Added(&4, &40)));
+    assert!(rt; is_over(&mut walk) && is_over(&mut walk));
+}
+
+// A copy goes on from the same place.
+#[test]
+fn copies_of_changes(rt: HostRuntime) {
+    let base = map_of(&rt, &[(1, 10), (2, 20), (3, 30)]);
+    let branch = changed_branch(&rt, &base);
+    let mut changes = branch.changes();
+    assert!(rt; changes.next() == Some(MapChange::Changed(&1, &10, &11)));
+    let copy = changes.clone().expect(&rt, "ample memory");
+    assert_last_two(&rt, changes);
+    assert_last_two(&rt, copy);
 }
 
 // One pair in a branch: the pair, a node of each map, and nothing else.

@@ -10,5 +10,5 @@ mod requests;
 pub(crate) mod scenarios;
 mod split;
 mod ties;
-mod walks;
+pub(crate) mod walks;
 mod worked;

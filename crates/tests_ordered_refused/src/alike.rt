@@ -1,13 +1,12 @@
 use crate::Tests;
-use crate::red_black_tree_map::FailingMap;
-use crate::red_black_tree_set::FailingSet;
+use crate::red_black_tree_map::{FailingMap, MapCall, MapChanged, MapMade};
+use crate::red_black_tree_set::{FailingSet, SetCall, SetChanged, SetMade};
 use rpds_core::steps::Steps;
 use rpds_faults::{FailingItem, Faults};
 use rpds_refusals::alike::{Keyed, check_alike};
-use rpds_refusals::call::Call::{self, Counted, InPlace, InPlaceCounted, Plain};
-use rpds_refusals::call::Change::{Put, Take};
+use rpds_refusals::call::Call::{Changed, Made};
 
-impl<'t> Keyed<'t, Tests> for FailingSet<'t> {
+impl<'t> Keyed<'t, Tests, SetCall> for FailingSet<'t> {
     fn size(&self) -> usize {
         self.size()
     }
@@ -30,7 +29,7 @@ impl<'t> Keyed<'t, Tests> for FailingSet<'t> {
     }
 }
 
-impl<'t> Keyed<'t, Tests> for FailingMap<'t> {
+impl<'t> Keyed<'t, Tests, MapCall> for FailingMap<'t> {
     fn size(&self) -> usize {
         self.size()
     }
@@ -51,15 +50,28 @@ impl<'t> Keyed<'t, Tests> for FailingMap<'t> {
     }
 }
 
-const CALLS: &[Call] = &[
-    Plain(Put),
-    Plain(Take),
-    Counted(Put),
-    Counted(Take),
-    InPlace(Put),
-    InPlace(Take),
-    InPlaceCounted(Put),
-    InPlaceCounted(Take),
+// The same calls of a set and of a map.
+const CALLS: &[(SetCall, MapCall)] = &[
+    (Made(SetMade::Insert), Made(MapMade::Insert)),
+    (Made(SetMade::InsertCounted), Made(MapMade::InsertCounted)),
+    (Made(SetMade::Remove), Made(MapMade::Remove)),
+    (Made(SetMade::RemoveCounted), Made(MapMade::RemoveCounted)),
+    (
+        Changed(SetChanged::InsertMut),
+        Changed(MapChanged::InsertMut),
+    ),
+    (
+        Changed(SetChanged::InsertMutCounted),
+        Changed(MapChanged::InsertMutCounted),
+    ),
+    (
+        Changed(SetChanged::RemoveMut),
+        Changed(MapChanged::RemoveMut),
+    ),
+    (
+        Changed(SetChanged::RemoveMutCounted),
+        Changed(MapChanged::RemoveMutCounted),
+    ),
 ];
 
 // Among so few as two, both are empty at times.
@@ -67,9 +79,8 @@ const CALLS: &[Call] = &[
 fn a_set_agrees_with_a_map(rt: HostRuntime) {
     let faults = Faults::new(rt.alloc());
     for limit in [64, 2] {
-        check_alike::<Tests, FailingSet, FailingMap>(&faults, 0, CALLS, limit).expect(
-            &rt,
-            "each call",
-        );
+        check_alike::<Tests, SetCall, MapCall, FailingSet, FailingMap>(
+            &faults, 0, CALLS, limit,
+        ).expect(&rt, "each call");
     }
 }

@@ -6,6 +6,10 @@
 #[cfg(test)]
 mod alike;
 #[cfg(test)]
+mod collected;
+#[cfg(test)]
+mod extended;
+#[cfg(test)]
 mod merges;
 #[cfg(test)]
 mod red_black_tree_map;

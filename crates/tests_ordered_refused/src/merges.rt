@@ -1,30 +1,42 @@
 use crate::Tests;
 use crate::red_black_tree_map::{FailingMap, NODE, PAIR, RISING, STORED};
+use rpds_core::steps::Steps;
 use rpds_faults::{FailingItem, Faults};
-use rpds_refusals::answer::{always_true, handed_on, no_such_call, put_in_place};
+use rpds_refusals::answer::{always_true, handed_on, put_in_place};
+use rpds_refusals::call::Call;
+use rpds_refusals::call::Call::{Changed, Made};
 use rpds_refusals::check::check_calls;
 use rpds_refusals::item::pair;
 use rpds_refusals::plan::Sharing::Shared;
 use rpds_refusals::plan::{MemoryRow, NOTHING, Plan};
+use rpds_refusals::refused::check_some_refused;
 use rpds_refusals::subject::Subject;
 use rpds_refusals::{memory, receivers};
 use rpds_tree::map::red_black_tree_map::RedBlackTreeMap;
-use std::alloc::AllocError;
+use std::alloc::{AllocError, Global};
 use std::cell::Cell;
+use std::process::Abort;
 
-/// A call of a map at which it meets others.
+// A call that hands out a map of this one and of others.
 #[derive(Clone, Copy, Debug)]
-enum MeetingCall {
-    Put,
+enum MadeCall {
     UnionWith,
     Merge,
-    /// With a closure that fails.
-    FailingUnionWith,
-    FailingMerge,
+    MergeOurs,
     InsertShared,
-    InsertSharedInPlace,
     Share,
 }
+
+// A call that changes the map, or whose closure fails.
+#[derive(Clone, Copy, Debug)]
+enum ChangedCall {
+    InsertMut,
+    InsertSharedMut,
+    FailingUnionWith,
+    FailingMerge,
+}
+
+type MeetingCall = Call<MadeCall, ChangedCall>;
 
 // A map of the number and of 2.
 fn other<'t>(number: u64, faults: &'t Faults) -> Result<FailingMap<'t>, AllocError> {
@@ -60,6 +72,19 @@ fn merged<'t>(
     map.merge(&ours, &theirs, |_key, _base, _ours, _theirs| {
         Ok(Some(FailingItem::new(55, &faults.counts)))
     })
+}
+
+fn merged_ours<'t>(
+    map: &FailingMap<'t>,
+    number: u64,
+    faults: &'t Faults,
+) -> Result<FailingMap<'t>, AllocError> {
+    let ours = changed(map, number, 66, 4, faults)?;
+    let theirs = changed(map, number, 77, 3, faults)?;
+    match map.merge_ours(&ours, &theirs) {
+        Ok(merged) => merged.map.clone(),
+        Err(error) => Err(error),
+    }
 }
 
 // A union whose closure fails.
@@ -110,7 +135,8 @@ fn put_shared<'t>(
     number: u64,
     faults: &'t Faults,
 ) -> Result<bool, AllocError> {
-    match other(number, faults)?.shared_entry(&FailingItem::new(number, &faults.counts))? {
+    let key = FailingItem::new(number, &faults.counts);
+    match other(number, faults)?.shared_entry_counted(&key, &mut Steps::new())? {
         Some(entry) => always_true(map.insert_shared_mut(entry)),
         None => Ok(false),
     }
@@ -119,22 +145,38 @@ fn put_shared<'t>(
 // The map that a call hands out.
 fn made<'t>(
     map: &FailingMap<'t>,
-    call: MeetingCall,
+    call: MadeCall,
     number: u64,
     faults: &'t Faults,
 ) -> Result<FailingMap<'t>, AllocError> {
     match call {
-        MeetingCall::UnionWith => map.union_with(
+        MadeCall::UnionWith => map.union_with(
             &other(number, faults)?,
             |_key, _ours, theirs| theirs.clone(),
         ),
-        MeetingCall::Merge => merged(map, number, faults),
-        MeetingCall::InsertShared => with_shared(map, number, faults),
-        MeetingCall::Share => map.clone(),
-        MeetingCall::Put
-        | MeetingCall::FailingUnionWith
-        | MeetingCall::FailingMerge
-        | MeetingCall::InsertSharedInPlace => no_such_call(),
+        MadeCall::Merge => merged(map, number, faults),
+        MadeCall::MergeOurs => merged_ours(map, number, faults),
+        MadeCall::InsertShared => with_shared(map, number, faults),
+        MadeCall::Share => map.clone(),
+    }
+}
+
+// Makes a call in place, and tells whether there was something to do.
+fn performed<'t>(
+    map: &mut FailingMap<'t>,
+    call: ChangedCall,
+    number: u64,
+    faults: &'t Faults,
+) -> Result<bool, AllocError> {
+    let counts = &faults.counts;
+    match call {
+        ChangedCall::InsertMut => always_true(map.insert_mut(
+            FailingItem::new(number, counts),
+            FailingItem::new(99, counts),
+        )),
+        ChangedCall::InsertSharedMut => put_shared(map, number, faults),
+        ChangedCall::FailingUnionWith => fails_to_unite(map, number, faults),
+        ChangedCall::FailingMerge => fails_to_merge(map, number, faults),
     }
 }
 
@@ -164,42 +206,42 @@ impl<'t> Subject<'t, Tests, MeetingCall> for FailingMap<'t> {
         number: u64,
         faults: &'t Faults,
     ) -> Result<bool, AllocError> {
-        let counts = &faults.counts;
         match call {
-            MeetingCall::Put => always_true(self.insert_mut(
-                FailingItem::new(number, counts),
-                FailingItem::new(99, counts),
-            )),
-            MeetingCall::FailingUnionWith => fails_to_unite(self, number, faults),
-            MeetingCall::FailingMerge => fails_to_merge(self, number, faults),
-            MeetingCall::InsertSharedInPlace => put_shared(self, number, faults),
-            _ => {
+            Made(call) => {
                 let made = made(self, call, number, faults);
                 put_in_place(self, made)
             }
+            Changed(call) => performed(self, call, number, faults),
         }
     }
 }
 
 // Of no pairs, of one, and of seven.
 const PLAN: Plan<'static, MeetingCall> = Plan {
-    put: MeetingCall::Put,
+    put: Changed(ChangedCall::InsertMut),
     receivers: receivers![&[], &[1], &[1, 2, 3, 4, 5, 6, 7]],
     numbers: &[1, 2, 4, 7, 9],
-    calls: &[
-        MeetingCall::Put,
-        MeetingCall::UnionWith,
-        MeetingCall::Merge,
-        MeetingCall::FailingUnionWith,
-        MeetingCall::FailingMerge,
-        MeetingCall::InsertShared,
-        MeetingCall::InsertSharedInPlace,
-    ],
-    never_refused: &[MeetingCall::Share],
+    calls: &[],
+    never_refused: &[Made(MadeCall::Share)],
     empty_without_memory: &[0],
     without_memory: &[],
     limits: &[(RISING, ROWS)],
 };
+
+// The calls that ask for memory or for a clone. Each list has a test of its own.
+const UNIONS: &[MeetingCall] = &[
+    Made(MadeCall::UnionWith),
+    Made(MadeCall::InsertShared),
+    Changed(ChangedCall::InsertMut),
+    Changed(ChangedCall::InsertSharedMut),
+    Changed(ChangedCall::FailingUnionWith),
+];
+
+const MERGES: &[MeetingCall] = &[
+    Made(MadeCall::Merge),
+    Made(MadeCall::MergeOurs),
+    Changed(ChangedCall::FailingMerge),
+];
 
 // Twice the logarithm of 10,003 is 26. By their contracts an insertion makes at most 27 nodes, a removal at most 104, and a union
 // 237 for each pair of the smaller map, of which there are two.
@@ -209,27 +251,46 @@ const REMOVED: u64 = 104;
 
 const UNITED: u64 = 2 * 237 + 2 * INSERTED;
 
-// The other map has two pairs, each of which takes two requests.
-const OTHER: u64 = 2 * (NODE + PAIR);
+// The other map has two pairs: a list of them takes one request, and each of them two.
+const OTHER: u64 = 2 * (32 + NODE + PAIR);
 
 // Each of two sides puts one pair in and takes one out, and so does the merge with what is theirs.
 const MERGED: u64 = 3 * (INSERTED + REMOVED);
 
 const ROWS: &[MemoryRow<'static, MeetingCall>] = &[
-    memory!(Shared, calls: &[MeetingCall::UnionWith], at: STORED,
-        requests: 4 + 2 + UNITED, bytes: OTHER + 2 * PAIR + UNITED * NODE),
-    memory!(Shared, calls: &[MeetingCall::Merge], at: STORED,
+    memory!(Shared, calls: &[Made(MadeCall::UnionWith)], at: STORED,
+        requests: 5 + 2 + UNITED, bytes: OTHER + 2 * PAIR + UNITED * NODE),
+    memory!(Shared, calls: &[Made(MadeCall::Merge), Made(MadeCall::MergeOurs)], at: STORED,
         requests: 3 + MERGED, bytes: 3 * PAIR + MERGED * NODE),
     memory!(
         Shared,
-        calls: &[MeetingCall::InsertShared, MeetingCall::InsertSharedInPlace],
-        at: STORED, requests: 4 + INSERTED, bytes: OTHER + INSERTED * NODE
+        calls: &[Made(MadeCall::InsertShared), Changed(ChangedCall::InsertSharedMut)],
+        at: STORED, requests: 5 + INSERTED, bytes: OTHER + INSERTED * NODE
     ),
-    memory!(Shared, calls: &[MeetingCall::Share], at: &[7], limit: NOTHING),
+    memory!(Shared, calls: &[Made(MadeCall::Share)], at: &[7], limit: NOTHING),
 ];
 
+// Makes the calls with each request and each clone refused in turn.
+fn assert_refused(rt: &impl Abort, alloc: Global, calls: &'static [MeetingCall]) {
+    let faults = Faults::new(alloc);
+    check_some_refused::<Tests, MeetingCall, FailingMap>(&faults, &PLAN, calls).expect(
+        rt,
+        "each call",
+    );
+}
+
 #[test]
-fn calls(rt: HostRuntime) {
+fn unions(rt: HostRuntime) {
+    assert_refused(&rt, rt.alloc(), UNIONS);
+}
+
+#[test]
+fn merges(rt: HostRuntime) {
+    assert_refused(&rt, rt.alloc(), MERGES);
+}
+
+#[test]
+fn asked(rt: HostRuntime) {
     let faults = Faults::new(rt.alloc());
-    check_calls::<Tests, _, FailingMap>(&faults, &PLAN).expect(&rt, "each call");
+    check_calls::<Tests, _, FailingMap>(&faults, &PLAN).expect(&rt, "each check");
 }

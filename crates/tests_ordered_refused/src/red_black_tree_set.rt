@@ -1,30 +1,86 @@
 use crate::Tests;
 use crate::red_black_tree_map::{
-    ABSENT, APPENDS, BEYOND, BUILDS, COLLECTS, COMBINED, COUNTS, CUT, CUTS, MIXED, NODE, NUMBERS,
-    POPPED, POPS, POPS_IN_PLACE, RANGE, RANGES, RECEIVERS, REMAINDERS, REST, RISING, STORED,
-    UNIONS,
+    ABSENT, BEYOND, COMBINED, COUNTS, CUT, MIXED, NODE, NUMBERS, POPPED, RANGE, RECEIVERS, REST,
+    RISING, STORED,
+};
+use crate::red_black_tree_set::SetChanged::{
+    Clear, InsertMut, InsertMutCounted, PopFirstMut, PopFirstMutCounted, PopLastMut,
+    PopLastMutCounted, RemoveMut, RemoveMutCounted,
+};
+use crate::red_black_tree_set::SetMade::{
+    Append, AppendCounted, Cloned, FromArray, FromIter, FromSorted, FromSortedCounted, Insert,
+    InsertCounted, PopFirst, PopFirstCounted, PopLast, PopLastCounted, Remove, RemoveCounted,
+    Share, Split, SplitCounted, Subrange, SubrangeCounted, Union, UnionCounted, WithoutRange,
+    WithoutRangeCounted,
 };
 use rpds_core::steps::Steps;
 use rpds_faults::{FailingAllocator, FailingItem, Faults};
-use rpds_refusals::answer::{always_some, always_true, has_number, is_below, no_such_call};
-use rpds_refusals::call::Call::{Counted, InPlace, InPlaceCounted, Plain};
-use rpds_refusals::call::Change::{
-    Append, Clear, Cloned, Collect, Extend, Insert, Keep, Put, Remove, Share, Skip, Sorted, Take,
-    Walk, Write,
-};
-use rpds_refusals::call::{Call, Change};
+use rpds_refusals::answer::{always_some, always_true, has_number, is_below, put_if_some};
+use rpds_refusals::call::Call;
+use rpds_refusals::call::Call::{Changed, Made};
 use rpds_refusals::check::check_container;
 use rpds_refusals::container::Container;
+use rpds_refusals::limits::check_large;
 use rpds_refusals::looks::Looks;
 use rpds_refusals::plan::Sharing::{Alike, Alone, Shared};
 use rpds_refusals::plan::{MemoryRow, NOTHING, NoMemoryRow, Plan};
+use rpds_refusals::refused::check_some_refused;
+use rpds_refusals::subject::Subject;
 use rpds_refusals::{memory, no_memory, receiver};
 use rpds_tree::set::red_black_tree_set::RedBlackTreeSet;
 use rpds_tree::sorted::SortedError;
-use std::alloc::AllocError;
+use std::alloc::{AllocError, Global};
 use std::ops::Bound::{Excluded, Included, Unbounded};
+use std::process::Abort;
 
 pub(crate) type FailingSet<'t> = RedBlackTreeSet<FailingItem<'t>, &'t FailingAllocator>;
+
+pub(crate) type SetCall = Call<SetMade, SetChanged>;
+
+// A call that hands out a set.
+#[derive(Clone, Copy, Debug)]
+pub(crate) enum SetMade {
+    Insert,
+    InsertCounted,
+    Remove,
+    RemoveCounted,
+    PopFirst,
+    PopFirstCounted,
+    PopLast,
+    PopLastCounted,
+    // What is above the value.
+    Split,
+    SplitCounted,
+    Subrange,
+    SubrangeCounted,
+    WithoutRange,
+    WithoutRangeCounted,
+    Union,
+    UnionCounted,
+    Append,
+    AppendCounted,
+    FromIter,
+    FromArray,
+    FromSorted,
+    FromSortedCounted,
+    Share,
+    // By the trait `Clone`.
+    Cloned,
+}
+
+// A call that changes the set.
+#[derive(Clone, Copy, Debug)]
+pub(crate) enum SetChanged {
+    InsertMut,
+    InsertMutCounted,
+    RemoveMut,
+    RemoveMutCounted,
+    PopFirstMut,
+    PopFirstMutCounted,
+    PopLastMut,
+    PopLastMutCounted,
+    Clear,
+}
 
 // A set of items, one of which may come twice.
 fn collected<'t>(number: u64, faults: &'t Faults) -> Result<FailingSet<'t>, AllocError> {
@@ -93,107 +149,68 @@ fn rest_of<'t, P: Drop>(
     }
 }
 
-// `Extend` appends, `Insert` cuts at a value, `Walk` takes a range, `Remove` leaves one out, and `Write` makes a set of an array.
-fn plain<'t>(
+fn made<'t>(
     set: &FailingSet<'t>,
-    change: Change,
+    call: SetMade,
     number: u64,
     faults: &'t Faults,
 ) -> Result<Option<FailingSet<'t>>, AllocError> {
-    let counts = &faults.counts;
-    match change {
-        Put => always_some(set.insert(FailingItem::new(number, counts))),
-        Take => always_some(set.remove(&FailingItem::new(number, counts))),
-        Collect => always_some(collected(number, faults)),
-        Sorted => risen(RedBlackTreeSet::from_sorted(&faults.alloc, rising(number, faults)?)),
-        Append => always_some(set.union(&collected(number, faults)?)),
-        Extend => risen(set.append(&behind(faults)?)),
-        Insert => Ok(Some(set.split(&FailingItem::new(number, counts))?.above)),
-        Walk => always_some(set.subrange(Excluded(&FailingItem::new(number, counts)), Unbounded)),
-        Remove => always_some(set.without_range(
-            Included(&FailingItem::new(number, counts)),
-            Unbounded,
-        )),
-        Skip => rest_of(set.pop_first()),
-        Keep => rest_of(set.pop_last()),
-        Share => always_some(set.clone()),
-        Cloned => always_some(Clone::clone(set)),
-        Write => always_some(of_array(number, faults)),
-        _ => no_such_call(),
-    }
-}
-
-fn counted<'t>(
-    set: &FailingSet<'t>,
-    change: Change,
-    number: u64,
-    faults: &'t Faults,
-) -> Result<Option<FailingSet<'t>>, AllocError> {
+    let item = FailingItem::new(number, &faults.counts);
     let steps = &mut Steps::new();
-    let counts = &faults.counts;
-    match change {
-        Put => { always_some(set.insert_counted(FailingItem::new(number, counts), steps)) }
-        Take => always_some(set.remove_counted(&FailingItem::new(number, counts), steps)),
-        Append => always_some(set.union_counted(&collected(number, faults)?, steps)),
-        Extend => risen(set.append_counted(&behind(faults)?, steps)),
-        Insert => Ok(Some(
-            set.split_counted(&FailingItem::new(number, counts), steps)?
-                .above,
-        )),
-        Walk => always_some(set.subrange_counted(
-            Excluded(&FailingItem::new(number, counts)),
-            Unbounded,
-            steps,
-        )),
-        Remove => always_some(set.without_range_counted(
-            Included(&FailingItem::new(number, counts)),
-            Unbounded,
-            steps,
-        )),
-        Skip => rest_of(set.pop_first_counted(steps)),
-        Keep => rest_of(set.pop_last_counted(steps)),
-        Sorted => {
+    match call {
+        Insert => always_some(set.insert(item)),
+        InsertCounted => always_some(set.insert_counted(item, steps)),
+        Remove => always_some(set.remove(&item)),
+        RemoveCounted => always_some(set.remove_counted(&item, steps)),
+        PopFirst => rest_of(set.pop_first()),
+        PopFirstCounted => rest_of(set.pop_first_counted(steps)),
+        PopLast => rest_of(set.pop_last()),
+        PopLastCounted => rest_of(set.pop_last_counted(steps)),
+        Split => Ok(Some(set.split(&item)?.above)),
+        SplitCounted => Ok(Some(set.split_counted(&item, steps)?.above)),
+        Subrange => always_some(set.subrange(Excluded(&item), Unbounded)),
+        SubrangeCounted => always_some(set.subrange_counted(Excluded(&item), Unbounded, steps)),
+        WithoutRange => always_some(set.without_range(Included(&item), Unbounded)),
+        WithoutRangeCounted => {
+            always_some(set.without_range_counted(Included(&item), Unbounded, steps))
+        }
+        Union => always_some(set.union(&collected(number, faults)?)),
+        UnionCounted => always_some(set.union_counted(&collected(number, faults)?, steps)),
+        Append => risen(set.append(&behind(faults)?)),
+        AppendCounted => risen(set.append_counted(&behind(faults)?, steps)),
+        FromIter => always_some(collected(number, faults)),
+        FromArray => always_some(of_array(number, faults)),
+        FromSorted => risen(RedBlackTreeSet::from_sorted(&faults.alloc, rising(number, faults)?)),
+        FromSortedCounted => {
             let items = rising(number, faults)?;
             risen(RedBlackTreeSet::from_sorted_counted(&faults.alloc, items, steps))
         }
-        _ => no_such_call(),
+        Share => always_some(set.clone()),
+        Cloned => always_some(Clone::clone(set)),
     }
 }
 
 fn changed<'t>(
     set: &mut FailingSet<'t>,
-    change: Change,
+    call: SetChanged,
     number: u64,
     faults: &'t Faults,
 ) -> Result<bool, AllocError> {
-    let counts = &faults.counts;
-    match change {
-        Put => always_true(set.insert_mut(FailingItem::new(number, counts))),
-        Take => set.remove_mut(&FailingItem::new(number, counts)),
-        Skip => Ok(set.pop_first_mut()?.is_some()),
-        Keep => Ok(set.pop_last_mut()?.is_some()),
+    let item = FailingItem::new(number, &faults.counts);
+    let steps = &mut Steps::new();
+    match call {
+        InsertMut => always_true(set.insert_mut(item)),
+        InsertMutCounted => always_true(set.insert_mut_counted(item, steps)),
+        RemoveMut => set.remove_mut(&item),
+        RemoveMutCounted => set.remove_mut_counted(&item, steps),
+        PopFirstMut => Ok(set.pop_first_mut()?.is_some()),
+        PopFirstMutCounted => Ok(set.pop_first_mut_counted(steps)?.is_some()),
+        PopLastMut => Ok(set.pop_last_mut()?.is_some()),
+        PopLastMutCounted => Ok(set.pop_last_mut_counted(steps)?.is_some()),
         Clear => {
             set.clear();
             Ok(set.is_empty())
         }
-        _ => no_such_call(),
-    }
-}
-
-fn changed_counted<'t>(
-    set: &mut FailingSet<'t>,
-    change: Change,
-    number: u64,
-    faults: &'t Faults,
-) -> Result<bool, AllocError> {
-    let steps = &mut Steps::new();
-    let counts = &faults.counts;
-    match change {
-        Put => { always_true(set.insert_mut_counted(FailingItem::new(number, counts), steps)) }
-        Take => set.remove_mut_counted(&FailingItem::new(number, counts), steps),
-        Skip => Ok(set.pop_first_mut_counted(steps)?.is_some()),
-        Keep => Ok(set.pop_last_mut_counted(steps)?.is_some()),
-        _ => no_such_call(),
     }
 }
 
@@ -256,28 +273,58 @@ fn walks<'t>(set: &FailingSet<'t>, looks: &mut Looks<'_, 't>) {
     looks.see("size_hint", set.iter().size_hint() == (3, Some(3)));
 }
 
-impl<'t> Container<'t, Tests> for FailingSet<'t> {
-    fn empty(_variant: u8, faults: &'t Faults) -> Result<Self, AllocError> {
+// Whether both have the same items, and look-ups in both take the same steps.
+pub(crate) fn are_same<'t>(
+    set: &FailingSet<'t>,
+    twin: &FailingSet<'t>,
+    faults: &'t Faults,
+) -> bool {
+    faults.counts.compared();
+    for item in set.iter() {
+        set.get(item);
+        let compared = faults.counts.compared();
+        twin.get(item);
+        if faults.counts.compared() != compared {
+            return false;
+        }
+    }
+    *set == *twin
+}
+
+impl<'t> Subject<'t, Tests, SetCall> for FailingSet<'t> {
+    fn start(_variant: u8, faults: &'t Faults) -> Result<Self, AllocError> {
         Ok(RedBlackTreeSet::new(&faults.alloc))
     }
 
-    fn looks_as(&self, twin: &Self, faults: &'t Faults) -> bool {
-        faults.counts.compared();
-        for item in self.iter() {
-            self.get(item);
-            let compared = faults.counts.compared();
-            twin.get(item);
-            if faults.counts.compared() != compared {
-                return false;
+    fn share(&mut self, _faults: &'t Faults) -> Result<Option<Self>, AllocError> {
+        always_some(self.clone())
+    }
+
+    fn is_as(&self, twin: &Self, faults: &'t Faults) -> bool {
+        are_same(self, twin, faults)
+    }
+
+    fn held(&self) -> Option<u64> {
+        Some(self.size() as u64)
+    }
+
+    fn perform(
+        &mut self,
+        call: SetCall,
+        number: u64,
+        faults: &'t Faults,
+    ) -> Result<bool, AllocError> {
+        match call {
+            Made(call) => {
+                let made = made(self, call, number, faults);
+                put_if_some(self, made)
             }
+            Changed(call) => changed(self, call, number, faults),
         }
-        true
     }
+}
 
-    fn held(&self) -> usize {
-        self.size()
-    }
-
+impl<'t> Container<'t, Tests, SetCall> for FailingSet<'t> {
     fn looks(&self, other: &Self, empty: &Self, looks: &mut Looks<'_, 't>) {
         looks.see("size", self.size() == 3 && self.len() == 3);
         looks.see("is_empty", !self.is_empty() && empty.is_empty());
@@ -291,128 +338,196 @@ impl<'t> Container<'t, Tests> for FailingSet<'t> {
         ranges(self, looks);
         walks(self, looks);
     }
-
-    fn made(
-        &self,
-        call: Call,
-        number: u64,
-        faults: &'t Faults,
-    ) -> Result<Option<Self>, AllocError> {
-        match call {
-            Plain(change) => plain(self, change, number, faults),
-            Counted(change) => counted(self, change, number, faults),
-            _ => no_such_call(),
-        }
-    }
-
-    fn changed(&mut self, call: Call, number: u64, faults: &'t Faults) -> Result<bool, AllocError> {
-        match call {
-            InPlace(change) => changed(self, change, number, faults),
-            InPlaceCounted(change) => changed_counted(self, change, number, faults),
-            _ => no_such_call(),
-        }
-    }
 }
 
-const PLAN: Plan<'static, Call> = Plan {
-    put: InPlace(Put),
+const PLAN: Plan<'static, SetCall> = Plan {
+    put: Changed(InsertMut),
     receivers: RECEIVERS,
     numbers: NUMBERS,
-    calls: CALLS,
-    never_refused: &[Plain(Share), Plain(Cloned), InPlace(Clear)],
+    calls: &[],
+    never_refused: &[Made(Share), Made(Cloned), Changed(Clear)],
     empty_without_memory: &[0],
     without_memory: WITHOUT_MEMORY,
-    limits: &[(RISING, ROWS), (MIXED, ROWS)],
+    limits: &[(RISING, ROWS)],
 };
 
-const CALLS: &[Call] = &[
-    Plain(Put),
-    Plain(Take),
-    Plain(Collect),
-    Plain(Sorted),
-    Plain(Skip),
-    Plain(Keep),
-    Plain(Append),
-    Plain(Extend),
-    Plain(Insert),
-    Plain(Walk),
-    Plain(Remove),
-    Plain(Write),
-    Counted(Append),
-    Counted(Extend),
-    Counted(Insert),
-    Counted(Walk),
-    Counted(Remove),
-    Counted(Put),
-    Counted(Take),
-    Counted(Sorted),
-    Counted(Skip),
-    Counted(Keep),
-    InPlace(Put),
-    InPlace(Take),
-    InPlace(Skip),
-    InPlace(Keep),
-    InPlaceCounted(Put),
-    InPlaceCounted(Take),
-    InPlaceCounted(Skip),
-    InPlaceCounted(Keep),
+// The calls that ask for memory or for a clone. Each list has a test of its own.
+const INSERTIONS: &[SetCall] = &[
+    Made(Insert),
+    Made(InsertCounted),
+    Changed(InsertMut),
+    Changed(InsertMutCounted),
+];
+
+const REMOVALS: &[SetCall] = &[
+    Made(Remove),
+    Made(RemoveCounted),
+    Changed(RemoveMut),
+    Changed(RemoveMutCounted),
+];
+
+const CUTS: &[SetCall] = &[Made(Split), Made(SplitCounted)];
+
+const SUBRANGES: &[SetCall] = &[
+    Made(Subrange),
+    Made(SubrangeCounted),
+    Made(WithoutRange),
+    Made(WithoutRangeCounted),
+];
+
+const UNIONS: &[SetCall] = &[Made(Union), Made(UnionCounted)];
+
+const APPENDS: &[SetCall] = &[Made(Append), Made(AppendCounted)];
+
+const BUILDS: &[SetCall] = &[
+    Made(FromIter),
+    Made(FromArray),
+    Made(FromSorted),
+    Made(FromSortedCounted),
 ];
 
 // There is no such item, and no memory is needed.
-const WITHOUT_MEMORY: &[NoMemoryRow<'static, Call>] = &[
-    no_memory!(receiver!(&[]), calls: &[InPlace(Take), InPlaceCounted(Take)], at: 1, answer: false),
+const WITHOUT_MEMORY: &[NoMemoryRow<'static, SetCall>] = &[
+    no_memory!(receiver!(&[]), calls: &[Changed(RemoveMut), Changed(RemoveMutCounted)], at: 1,
+        answer: false),
     no_memory!(receiver!(&[]), calls: POPS, at: 1, answer: false),
+    no_memory!(receiver!(&[]), calls: POPS_IN_PLACE, at: 1, answer: false),
+];
+
+const POPS: &[SetCall] = &[
+    Made(PopFirst),
+    Made(PopLast),
+    Made(PopFirstCounted),
+    Made(PopLastCounted),
+];
+
+const POPS_IN_PLACE: &[SetCall] = &[
+    Changed(PopFirstMut),
+    Changed(PopLastMut),
+    Changed(PopFirstMutCounted),
+    Changed(PopLastMutCounted),
 ];
 
 // The bytes of an item.
 pub(crate) const ITEM: u64 = COUNTS + 16;
 
 // As much as those of a map.
-const ROWS: &[MemoryRow<'static, Call>] = &[
-    memory!(Alike, calls: &[Plain(Put), Counted(Put)], at: STORED,
+const ROWS: &[MemoryRow<'static, SetCall>] = &[
+    memory!(Alike, calls: &[Made(Insert), Made(InsertCounted)], at: STORED,
         requests: 19, bytes: 18 * NODE + ITEM),
-    memory!(Shared, calls: &[InPlace(Put), InPlaceCounted(Put)], at: STORED,
+    memory!(Shared, calls: &[Changed(InsertMut), Changed(InsertMutCounted)], at: STORED,
         requests: 19, bytes: 18 * NODE + ITEM),
-    memory!(Alike, calls: &[Plain(Put), Counted(Put)], at: ABSENT,
+    memory!(Alike, calls: &[Made(Insert), Made(InsertCounted)], at: ABSENT,
         requests: 20, bytes: 19 * NODE + ITEM),
-    memory!(Shared, calls: &[InPlace(Put), InPlaceCounted(Put)], at: ABSENT,
+    memory!(Shared, calls: &[Changed(InsertMut), Changed(InsertMutCounted)], at: ABSENT,
         requests: 20, bytes: 19 * NODE + ITEM),
-    memory!(Alike, calls: &[Plain(Take), Counted(Take)], at: STORED,
+    memory!(Alike, calls: &[Made(Remove), Made(RemoveCounted)], at: STORED,
         requests: 47, bytes: 47 * NODE),
-    memory!(Shared, calls: &[InPlace(Take), InPlaceCounted(Take)], at: STORED,
+    memory!(Shared, calls: &[Changed(RemoveMut), Changed(RemoveMutCounted)], at: STORED,
         requests: 47, bytes: 47 * NODE),
-    memory!(Alike, calls: &[Plain(Share), Plain(Cloned)], at: &[7], limit: NOTHING),
-    // A list of three takes one, and nothing more where it falls; a set of it two for each of them.
-    memory!(Alike, calls: BUILDS, at: &[1, 2], answer: false, requests: 1, bytes: 3 * 16),
-    memory!(Alike, calls: BUILDS, at: &[3], requests: 7, bytes: 3 * (16 + NODE + ITEM)),
-    memory!(Alike, calls: &[Plain(Write)], at: &[7], requests: 7, bytes: 3 * (16 + NODE + ITEM)),
-    memory!(Alike, calls: COLLECTS, at: &[1, 7], requests: 6, bytes: 3 * (NODE + ITEM)),
+    memory!(Alike, calls: &[Made(Share), Made(Cloned)], at: &[7], limit: NOTHING),
+    // A list of three takes one, and nothing more where it doesn't ascend; a set of it two for each of them.
+    memory!(Alike, calls: &[Made(FromSorted), Made(FromSortedCounted)], at: &[1, 2],
+        answer: false, requests: 1, bytes: 3 * 16),
+    memory!(Alike, calls: &[Made(FromSorted), Made(FromSortedCounted)], at: &[3],
+        requests: 7, bytes: 3 * (16 + NODE + ITEM)),
+    memory!(Alike, calls: &[Made(FromArray)], at: &[7], requests: 7, bytes: 3 * (16 + NODE + ITEM)),
+    memory!(Alike, calls: &[Made(FromIter)], at: &[1, 7],
+        requests: 7, bytes: 3 * (16 + NODE + ITEM)),
     memory!(Alike, calls: UNIONS, at: STORED,
-        requests: 6 + COMBINED, bytes: 3 * (NODE + ITEM) + COMBINED * NODE),
-    memory!(Alike, calls: APPENDS, at: &[7], answer: false, requests: 6, bytes: 3 * (NODE + ITEM)),
-    memory!(Alike, calls: CUTS, at: STORED, requests: CUT, bytes: CUT * NODE),
-    memory!(Alike, calls: RANGES, at: STORED, requests: RANGE, bytes: RANGE * NODE),
-    memory!(Alike, calls: REMAINDERS, at: STORED, requests: REST, bytes: REST * NODE),
+        requests: 7 + COMBINED, bytes: 3 * (16 + NODE + ITEM) + COMBINED * NODE),
+    memory!(Alike, calls: APPENDS, at: &[7], answer: false,
+        requests: 7, bytes: 3 * (16 + NODE + ITEM)),
+    memory!(Alike, calls: CUTS, at: STORED,
+        requests: CUT, bytes: CUT * NODE),
+    memory!(Alike, calls: &[Made(Subrange), Made(SubrangeCounted)], at: STORED,
+        requests: RANGE, bytes: RANGE * NODE),
+    memory!(Alike, calls: &[Made(WithoutRange), Made(WithoutRangeCounted)], at: STORED,
+        requests: REST, bytes: REST * NODE),
     memory!(Shared, calls: POPS, at: &[7],
         clones: 1, requests: POPPED, bytes: POPPED * NODE),
+    memory!(Shared, calls: POPS_IN_PLACE, at: &[7],
+        clones: 1, requests: POPPED, bytes: POPPED * NODE),
     // Alone: the item, where one is put in, and its node, where it is new.
-    memory!(Alone, calls: &[InPlace(Put)], at: STORED, requests: 1, bytes: ITEM),
-    memory!(Alone, calls: &[InPlaceCounted(Put)], at: STORED, requests: 1, bytes: ITEM),
-    memory!(Alone, calls: &[InPlace(Take)], at: STORED, limit: NOTHING),
-    memory!(Alone, calls: &[InPlace(Put)], at: STORED, requests: 2, bytes: NODE + ITEM),
-    memory!(Alone, calls: &[InPlaceCounted(Take)], at: STORED, limit: NOTHING),
+    memory!(Alone, calls: &[Changed(InsertMut)], at: STORED, requests: 1, bytes: ITEM),
+    memory!(Alone, calls: &[Changed(InsertMutCounted)], at: STORED, requests: 1, bytes: ITEM),
+    memory!(Alone, calls: &[Changed(RemoveMut)], at: STORED, limit: NOTHING),
+    memory!(Alone, calls: &[Changed(InsertMut)], at: STORED, requests: 2, bytes: NODE + ITEM),
+    memory!(Alone, calls: &[Changed(RemoveMutCounted)], at: STORED, limit: NOTHING),
     // All members lie above 0 by now, and below 10,000, so each part is empty or another handle.
     memory!(Alike, calls: CUTS, at: BEYOND, limit: NOTHING),
     memory!(Alone, calls: POPS_IN_PLACE, at: &[7], clones: 1, limit: NOTHING),
 ];
 
+// Makes the calls with each request and each clone refused in turn.
+fn assert_refused(rt: &impl Abort, alloc: Global, calls: &'static [SetCall]) {
+    let faults = Faults::new(alloc);
+    check_some_refused::<Tests, SetCall, FailingSet>(&faults, &PLAN, calls).expect(rt, "each call");
+}
+
 #[test]
-fn calls(rt: HostRuntime) {
+fn insertions(rt: HostRuntime) {
+    assert_refused(&rt, rt.alloc(), INSERTIONS);
+}
+
+#[test]
+fn removals(rt: HostRuntime) {
+    assert_refused(&rt, rt.alloc(), REMOVALS);
+}
+
+#[test]
+fn cuts(rt: HostRuntime) {
+    assert_refused(&rt, rt.alloc(), CUTS);
+}
+
+#[test]
+fn subranges(rt: HostRuntime) {
+    assert_refused(&rt, rt.alloc(), SUBRANGES);
+}
+
+#[test]
+fn unions(rt: HostRuntime) {
+    assert_refused(&rt, rt.alloc(), UNIONS);
+}
+
+#[test]
+fn appends(rt: HostRuntime) {
+    assert_refused(&rt, rt.alloc(), APPENDS);
+}
+
+#[test]
+fn builds(rt: HostRuntime) {
+    assert_refused(&rt, rt.alloc(), BUILDS);
+}
+
+#[test]
+fn pops(rt: HostRuntime) {
+    assert_refused(&rt, rt.alloc(), POPS);
+}
+
+#[test]
+fn pops_in_place(rt: HostRuntime) {
+    assert_refused(&rt, rt.alloc(), POPS_IN_PLACE);
+}
+
+#[test]
+fn asked_where_keys_came_in_no_order(rt: HostRuntime) {
     let faults = Faults::new(rt.alloc());
-    check_container::<Tests, FailingSet>(
+    check_large::<Tests, SetCall, FailingSet>(&faults, PLAN.put, &MIXED, ROWS).expect(
+        &rt, "each row",
+    );
+}
+
+// What asks for no memory, and what is asked for where keys rose.
+#[test]
+fn asked(rt: HostRuntime) {
+    let faults = Faults::new(rt.alloc());
+    check_container::<Tests, SetCall, FailingSet>(
         &faults,
         &PLAN,
+        Changed(Clear),
         &receiver!(&[1, 2, 3]),
         &receiver!(&[1, 5]),
-    ).expect(&rt, "each call");
+    )
+    .expect(&rt, "each check");
 }

@@ -2,16 +2,14 @@
 use crate::Tests;
 use rpds_faults::{FailingAllocator, FailingItem, Faults};
 use rpds_list::list::List;
-use rpds_refusals::answer::{has_number, no_such_call};
-use rpds_refusals::call::Call;
-use rpds_refusals::call::Call::{InPlace, Plain};
-use rpds_refusals::call::Change::{Clear, Extend, Put, Share, Take};
+use rpds_refusals::answer::has_number;
 use rpds_refusals::check::check_container;
 use rpds_refusals::container::Container;
 use rpds_refusals::failure::Failure;
 use rpds_refusals::looks::Looks;
 use rpds_refusals::plan::Sharing::{Alone, Shared};
 use rpds_refusals::plan::{LargeContainer, MemoryRow, NOTHING, Plan};
+use rpds_refusals::subject::Subject;
 use rpds_refusals::{memory, receiver};
 use std::alloc::AllocError;
 
@@ -38,8 +36,8 @@ enum Wrong {
     LooksWrong,
     // A push clones its item.
     Doubles,
-    // It has no call that takes an item out.
-    Lacks,
+    // To take an item out fails, though nothing was refused.
+    Fails,
     // Anything else.
     Other,
 }
@@ -54,8 +52,18 @@ const WRONGS: [Wrong; 10] = [
     Wrong::LookAsks,
     Wrong::LooksWrong,
     Wrong::Doubles,
-    Wrong::Lacks,
+    Wrong::Fails,
 ];
+
+// A call of a list.
+#[derive(Clone, Copy, Debug)]
+enum WrongCall {
+    Put,
+    PutTwo,
+    Take,
+    Share,
+    Clear,
+}
 
 // A list, and what is kept of it.
 #[derive(Drop, PartialEq)]
@@ -89,7 +97,7 @@ impl<'t> WrongList<'t> {
 
     fn take(&mut self) -> Result<bool, AllocError> {
         match self.wrong {
-            Wrong::Lacks => no_such_call(),
+            Wrong::Fails => Err(AllocError),
             Wrong::Keeps => {
                 self.kept = self.list.clone()?;
                 self.list.drop_first_mut()
@@ -127,9 +135,9 @@ impl<'t> WrongList<'t> {
     }
 }
 
-impl<'t> Container<'t, Tests> for WrongList<'t> {
+impl<'t> Subject<'t, Tests, WrongCall> for WrongList<'t> {
     // What it does wrong.
-    fn empty(variant: u8, faults: &'t Faults) -> Result<Self, AllocError> {
+    fn start(variant: u8, faults: &'t Faults) -> Result<Self, AllocError> {
         Ok(WrongList {
             list: List::new(&faults.alloc),
             kept: List::new(&faults.alloc),
@@ -137,14 +145,47 @@ impl<'t> Container<'t, Tests> for WrongList<'t> {
         })
     }
 
-    fn looks_as(&self, _twin: &Self, _faults: &'t Faults) -> bool {
-        true
+    fn share(&mut self, faults: &'t Faults) -> Result<Option<Self>, AllocError> {
+        Ok(Some(self.shared(faults)?))
     }
 
-    fn held(&self) -> usize {
-        self.list.len()
+    fn is_as(&self, twin: &Self, _faults: &'t Faults) -> bool {
+        *self == *twin
     }
 
+    fn held(&self) -> Option<u64> {
+        Some(self.list.len() as u64)
+    }
+
+    fn perform(
+        &mut self,
+        call: WrongCall,
+        number: u64,
+        faults: &'t Faults,
+    ) -> Result<bool, AllocError> {
+        match call {
+            WrongCall::Put => {
+                self.put(number, faults)?;
+                Ok(true)
+            }
+            WrongCall::PutTwo => {
+                self.put_two(number, faults)?;
+                Ok(true)
+            }
+            WrongCall::Take => self.take(),
+            WrongCall::Share => {
+                *self = self.shared(faults)?;
+                Ok(true)
+            }
+            WrongCall::Clear => {
+                self.clear(faults);
+                Ok(true)
+            }
+        }
+    }
+}
+
+impl<'t> Container<'t, Tests, WrongCall> for WrongList<'t> {
     fn looks(&self, _other: &Self, _empty: &Self, looks: &mut Looks<'_, 't>) {
         looks.see("len", self.list.len() == 3);
         looks.see("first", self.first(3));
@@ -153,68 +194,39 @@ impl<'t> Container<'t, Tests> for WrongList<'t> {
             has_number(self.list.last(), 1) && self.wrong != Wrong::LooksWrong,
         );
     }
-
-    fn made(
-        &self,
-        call: Call,
-        _number: u64,
-        faults: &'t Faults,
-    ) -> Result<Option<Self>, AllocError> {
-        match call {
-            Plain(Share) => Ok(Some(self.shared(faults)?)),
-            _ => no_such_call(),
-        }
-    }
-
-    fn changed(&mut self, call: Call, number: u64, faults: &'t Faults) -> Result<bool, AllocError> {
-        match call {
-            InPlace(Put) => {
-                self.put(number, faults)?;
-                Ok(true)
-            }
-            InPlace(Extend) => {
-                self.put_two(number, faults)?;
-                Ok(true)
-            }
-            InPlace(Take) => self.take(),
-            InPlace(Clear) => {
-                self.clear(faults);
-                Ok(true)
-            }
-            _ => no_such_call(),
-        }
-    }
 }
 
 // A cell of 48 bytes and its item of 40 for a push, and none for another handle.
-const ROWS: &[MemoryRow<'static, Call>] = &[
-    memory!(Shared, calls: &[InPlace(Put)], at: &[7], clones: 0, requests: 3, bytes: 88),
-    memory!(Alone, calls: &[Plain(Share)], at: &[7], limit: NOTHING),
+const ROWS: &[MemoryRow<'static, WrongCall>] = &[
+    memory!(Shared, calls: &[WrongCall::Put], at: &[7], clones: 0, requests: 3, bytes: 88),
+    memory!(Alone, calls: &[WrongCall::Share], at: &[7], limit: NOTHING),
 ];
 
 // What the checks find of a list that does this wrong.
 fn found(faults: &Faults, variant: u8) -> Wrong {
     let large = LargeContainer {
         variant,
+        count: 10_000,
         step: 1,
         limit: 10_000,
     };
     let plan = Plan {
-        put: InPlace(Put),
+        put: WrongCall::Put,
         receivers: &[
             receiver!(variant: variant, &[]),
             receiver!(variant: variant, &[1, 2]),
         ],
         numbers: &[9],
-        calls: &[InPlace(Put), InPlace(Extend)],
-        never_refused: &[InPlace(Take), InPlace(Clear)],
+        calls: &[WrongCall::Put, WrongCall::PutTwo],
+        never_refused: &[WrongCall::Take, WrongCall::Clear],
         empty_without_memory: &[variant],
         without_memory: &[],
         limits: &[(large, ROWS)],
     };
-    match check_container::<Tests, WrongList>(
+    match check_container::<Tests, WrongCall, WrongList>(
         faults,
         &plan,
+        WrongCall::Clear,
         &receiver!(variant: variant, &[1, 2, 3]),
         &receiver!(variant: variant, &[1, 5]),
     ) {
@@ -224,19 +236,19 @@ fn found(faults: &Faults, variant: u8) -> Wrong {
 }
 
 // What is wrong by the words of the failure.
-fn named(failure: &Failure<'_, Call>) -> Wrong {
+fn named(failure: &Failure<'_, WrongCall>) -> Wrong {
     match failure {
         Failure::Refused { row, nth, outcome } => match row.call {
-            InPlace(Extend) if *nth == 3 && !outcome.is_kept => Wrong::HalfWay,
-            InPlace(Clear) if outcome.is_kept && !outcome.is_held => Wrong::Leaks,
-            InPlace(Take) if !outcome.is_reported => Wrong::Lacks,
-            InPlace(Take) if outcome.is_all_freed && !outcome.is_held => Wrong::Keeps,
+            WrongCall::PutTwo if *nth == 3 && !outcome.is_kept => Wrong::HalfWay,
+            WrongCall::Clear if outcome.is_kept && !outcome.is_held => Wrong::Leaks,
+            WrongCall::Take if !outcome.is_reported => Wrong::Fails,
+            WrongCall::Take if outcome.is_all_freed && !outcome.is_held => Wrong::Keeps,
             _ => Wrong::Other,
         },
         Failure::OverLimit { call, came, .. } => match call {
-            Plain(Share) if came.requests == 20_000 => Wrong::Copies,
-            InPlace(Put) if came.bytes == 8_088 => Wrong::Spends,
-            InPlace(Put) if came.clones == 1 => Wrong::Doubles,
+            WrongCall::Share if came.requests == 20_000 => Wrong::Copies,
+            WrongCall::Put if came.bytes == 8_088 => Wrong::Spends,
+            WrongCall::Put if came.clones == 1 => Wrong::Doubles,
             _ => Wrong::Other,
         },
         Failure::Looks("first") => Wrong::LookAsks,

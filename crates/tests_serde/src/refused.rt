@@ -169,7 +169,7 @@ const WRONG: [[&str; 2]; 4] = [
     ["[12a3]", "{12a1}"],
 ];
 
-fn assert_told(rt: &impl Abort, kind: Kind, faults: &Faults, alloc: Global) {
+fn assert_not_there(rt: &impl Abort, kind: Kind, faults: &Faults, alloc: Global) {
     for inputs in WRONG {
         let answer = read(kind, faults, alloc, inputs);
         assert!(rt;
@@ -187,6 +187,6 @@ fn assert_told(rt: &impl Abort, kind: Kind, faults: &Faults, alloc: Global) {
 fn what_does_not_fit(rt: HostRuntime) {
     let faults = Faults::new(rt.alloc());
     for (kind, _) in KINDS {
-        assert_told(&rt, kind, &faults, rt.alloc());
+        assert_not_there(&rt, kind, &faults, rt.alloc());
     }
 }

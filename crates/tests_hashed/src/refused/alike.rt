@@ -1,13 +1,12 @@
 use crate::Tests;
-use crate::refused::hash_trie_map::FailingMap;
-use crate::refused::hash_trie_set::FailingSet;
+use crate::refused::hash_trie_map::{FailingMap, MapCall, MapChanged, MapMade};
+use crate::refused::hash_trie_set::{FailingSet, SetCall, SetChanged, SetMade};
 use rpds_core::steps::Steps;
 use rpds_faults::{FailingItem, Faults};
 use rpds_refusals::alike::{Keyed, check_alike};
-use rpds_refusals::call::Call::{self, InPlace, Plain};
-use rpds_refusals::call::Change::{Put, Take};
+use rpds_refusals::call::Call::{Changed, Made};
 
-impl<'t> Keyed<'t, Tests> for FailingSet<'t> {
+impl<'t> Keyed<'t, Tests, SetCall> for FailingSet<'t> {
     fn size(&self) -> usize {
         self.size()
     }
@@ -28,7 +27,7 @@ impl<'t> Keyed<'t, Tests> for FailingSet<'t> {
     }
 }
 
-impl<'t> Keyed<'t, Tests> for FailingMap<'t> {
+impl<'t> Keyed<'t, Tests, MapCall> for FailingMap<'t> {
     fn size(&self) -> usize {
         self.size()
     }
@@ -49,16 +48,28 @@ impl<'t> Keyed<'t, Tests> for FailingMap<'t> {
     }
 }
 
-const CALLS: &[Call] = &[Plain(Put), Plain(Take), InPlace(Put), InPlace(Take)];
+// The same calls of a set and of a map.
+const CALLS: &[(SetCall, MapCall)] = &[
+    (Made(SetMade::Insert), Made(MapMade::Insert)),
+    (Made(SetMade::Remove), Made(MapMade::Remove)),
+    (
+        Changed(SetChanged::InsertMut),
+        Changed(MapChanged::InsertMut),
+    ),
+    (
+        Changed(SetChanged::RemoveMut),
+        Changed(MapChanged::RemoveMut),
+    ),
+];
 
-// Four numbers have one hash. Among so few as two, both are empty at times.
+// Four numbers have one hash, and those of the others have up to three digits at degree 4. Among so few as two, both are empty at
+// times.
 #[test]
 fn a_set_agrees_with_a_map(rt: HostRuntime) {
     let faults = Faults::new(rt.alloc());
-    for limit in [64, 2] {
-        check_alike::<Tests, FailingSet, FailingMap>(&faults, 4, CALLS, limit).expect(
-            &rt,
-            "each call",
-        );
+    for limit in [40, 2] {
+        check_alike::<Tests, SetCall, MapCall, FailingSet, FailingMap>(
+            &faults, 4, CALLS, limit,
+        ).expect(&rt, "each call");
     }
 }

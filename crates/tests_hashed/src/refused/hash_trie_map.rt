@@ -1,24 +1,30 @@
 use crate::Tests;
+use crate::refused::hash_trie_map::MapChanged::{
+    AlterPresenceMut, AlterValueMut, Clear, GetMut, GetOrInsertWith, InsertMut, RemoveMut, ValueMut,
+};
+use crate::refused::hash_trie_map::MapMade::{
+    AlterPresence, AlterValue, FromArray, FromIter, Insert, InsertCounted, Remove, RemoveCounted,
+    Share, ShareCounted,
+};
 use rpds_core::steps::Steps;
 use rpds_faults::{FailingAllocator, FailingItem, Faults, FlooredBuild, LifeCounts};
 use rpds_hash::map::hash_trie_map::{DefaultBuildHasher, HashTrieMap};
 use rpds_refusals::answer::{
-    always_some, always_true, has_number, no_such_call, write_number, write_number_if_lent,
+    always_some, always_true, has_number, put_if_some, write_number, write_number_if_lent,
 };
-use rpds_refusals::call::Call::{Counted, InPlace, InPlaceCounted, Plain};
-use rpds_refusals::call::Change::{
-    Append, Clear, Cloned, Collect, Extend, Insert, Keep, Lend, Put, Remove, Replay, Reverse, Set,
-    Share, Skip, Sorted, Take, Walk, Write,
-};
-use rpds_refusals::call::{Call, Change};
+use rpds_refusals::call::Call;
+use rpds_refusals::call::Call::{Changed, Made};
 use rpds_refusals::check::check_container;
 use rpds_refusals::container::Container;
 use rpds_refusals::item::pair;
 use rpds_refusals::looks::Looks;
 use rpds_refusals::plan::Sharing::{Alike, Alone, Shared};
 use rpds_refusals::plan::{LargeContainer, MemoryRow, NOTHING, NoMemoryRow, Plan, Receiver};
+use rpds_refusals::refused::check_some_refused;
+use rpds_refusals::subject::Subject;
 use rpds_refusals::{memory, no_memory, receiver};
-use std::alloc::AllocError;
+use std::alloc::{AllocError, Global};
+use std::process::Abort;
 
 pub(crate) type FailingMap<'t> = HashTrieMap<
     FailingItem<'t>,
@@ -26,6 +32,39 @@ pub(crate) type FailingMap<'t> = HashTrieMap<
     FlooredBuild<'t>,
     &'t FailingAllocator,
 >;
+
+pub(crate) type MapCall = Call<MapMade, MapChanged>;
+
+// A call that hands out a map.
+#[derive(Clone, Copy, Debug)]
+pub(crate) enum MapMade {
+    Insert,
+    InsertCounted,
+    Remove,
+    RemoveCounted,
+    // Another value at a key that is there.
+    AlterValue,
+    // Without a key that is there, or with one that isn't.
+    AlterPresence,
+    FromIter,
+    FromArray,
+    Share,
+    ShareCounted,
+}
+
+// A call that changes the map.
+#[derive(Clone, Copy, Debug)]
+pub(crate) enum MapChanged {
+    InsertMut,
+    RemoveMut,
+    AlterValueMut,
+    AlterPresenceMut,
+    GetOrInsertWith,
+    // A write through what the call lends.
+    GetMut,
+    ValueMut,
+    Clear,
+}
 
 // Makes a map of pairs, one key of which may come twice, and drops it: its hasher is another one.
 fn collected<'t>(number: u64, faults: &'t Faults) -> Result<Option<FailingMap<'t>>, AllocError> {
@@ -65,12 +104,7 @@ fn turned<'t>(old: Option<&FailingItem<'t>>, counts: &'t LifeCounts) -> Option<F
     }
 }
 
-// What a map answers that doesn't have this call, or is full.
-fn lacks<'t>(_map: &FailingMap<'t>) -> Result<FailingMap<'t>, AllocError> {
-    no_such_call()
-}
-
-// `Set` alters a key that is there.
+// Another value at a key that is there.
 fn altered<'t>(
     map: &FailingMap<'t>,
     number: u64,
@@ -79,8 +113,8 @@ fn altered<'t>(
     map.alter(FailingItem::new(number, counts), |old| kept(old))
 }
 
-// `Reverse` takes a key out that is there, or puts it in.
-fn reversed<'t>(
+// Without a key that is there, or with one that isn't.
+fn turned_over<'t>(
     map: &FailingMap<'t>,
     number: u64,
     counts: &'t LifeCounts,
@@ -102,71 +136,39 @@ fn inserted<'t>(
     )
 }
 
-// `Write` makes a map of an array.
-fn plain<'t>(
+fn inserted_counted<'t>(
     map: &FailingMap<'t>,
-    change: Change,
+    number: u64,
+    counts: &'t LifeCounts,
+) -> Result<FailingMap<'t>, AllocError> {
+    map.insert_counted(
+        FailingItem::new(number, counts),
+        FailingItem::new(99, counts),
+        &mut Steps::new(),
+    )
+}
+
+fn made<'t>(
+    map: &FailingMap<'t>,
+    call: MapMade,
     number: u64,
     faults: &'t Faults,
 ) -> Result<Option<FailingMap<'t>>, AllocError> {
     let counts = &faults.counts;
-    match change {
-        Put => always_some(inserted(map, number, counts)),
-        Take => always_some(map.remove(&FailingItem::new(number, counts))),
-        Set => always_some(altered(map, number, counts)),
-        Reverse => always_some(reversed(map, number, counts)),
-        Collect => collected(number, faults),
-        Write => of_array(number, faults),
-        Share => always_some(map.clone()),
-        Insert
-        | Remove
-        | Keep
-        | Skip
-        | Lend
-        | Cloned
-        | Extend
-        | Append
-        | Sorted
-        | Replay
-        | Walk
-        | Clear => { always_some(lacks(map)) }
-    }
-}
-
-fn counted<'t>(
-    map: &FailingMap<'t>,
-    change: Change,
-    number: u64,
-    faults: &'t Faults,
-) -> Result<FailingMap<'t>, AllocError> {
-    let counts = &faults.counts;
     let steps = &mut Steps::new();
-    match change {
-        Put => {
-            map.insert_counted(
-                FailingItem::new(number, counts),
-                FailingItem::new(99, counts),
-                steps,
-            )
+    match call {
+        Insert => always_some(inserted(map, number, counts)),
+        InsertCounted => always_some(inserted_counted(map, number, counts)),
+        Remove => always_some(map.remove(&FailingItem::new(number, counts))),
+        RemoveCounted => {
+            always_some(map.remove_counted(&FailingItem::new(number, counts), steps))
         }
-        Take => map.remove_counted(&FailingItem::new(number, counts), steps),
-        Share => map.clone_counted(steps),
-        Set
-        | Insert
-        | Remove
-        | Keep
-        | Skip
-        | Reverse
-        | Lend
-        | Write
-        | Cloned
-        | Extend
-        | Append
-        | Collect
-        | Sorted
-        | Replay
-        | Walk
-        | Clear => lacks(map),
+        AlterValue => always_some(altered(map, number, counts)),
+        AlterPresence => always_some(turned_over(map, number, counts)),
+        FromIter => collected(number, faults),
+        FromArray => of_array(number, faults),
+        Share => always_some(map.clone()),
+        ShareCounted => always_some(map.clone_counted(steps)),
     }
 }
 
@@ -179,6 +181,10 @@ fn filled<'t>(
     let key = FailingItem::new(number, counts);
     let value = map.get_or_insert_with(key, || Ok(FailingItem::new(99, counts)))?;
     Ok(write_number(Some(value), 99))
+}
+
+fn lent<'t>(map: &mut FailingMap<'t>, key: &FailingItem<'t>) -> Result<bool, AllocError> {
+    Ok(write_number(map.get_mut(key)?, 99))
 }
 
 fn put_pair<'t>(
@@ -211,38 +217,25 @@ fn turn_over<'t>(
     ))
 }
 
-// What only looks for the key.
-fn changed_at<'t>(
-    map: &mut FailingMap<'t>,
-    change: Change,
-    key: &FailingItem<'t>,
-) -> Result<bool, AllocError> {
-    match change {
-        Take => map.remove_mut(key),
-        Lend => Ok(write_number(map.get_mut(key)?, 99)),
-        _ => write_number_if_lent(map.value_mut(key), 99),
-    }
-}
-
-// `Insert` makes the value of a key that isn't there.
 fn changed<'t>(
     map: &mut FailingMap<'t>,
-    change: Change,
+    call: MapChanged,
     number: u64,
     faults: &'t Faults,
 ) -> Result<bool, AllocError> {
     let counts = &faults.counts;
-    match change {
-        Put => put_pair(map, number, counts),
-        Set => alter(map, number, counts),
-        Reverse => turn_over(map, number, counts),
-        Insert => filled(map, number, counts),
-        Take | Lend | Write => changed_at(map, change, &FailingItem::new(number, counts)),
+    match call {
+        InsertMut => put_pair(map, number, counts),
+        RemoveMut => map.remove_mut(&FailingItem::new(number, counts)),
+        AlterValueMut => alter(map, number, counts),
+        AlterPresenceMut => turn_over(map, number, counts),
+        GetOrInsertWith => filled(map, number, counts),
+        GetMut => lent(map, &FailingItem::new(number, counts)),
+        ValueMut => write_number_if_lent(map.value_mut(&FailingItem::new(number, counts)), 99),
         Clear => {
             map.clear();
             Ok(map.is_empty())
         }
-        _ => no_such_call(),
     }
 }
 
@@ -273,6 +266,22 @@ fn gets_absent<'t>(map: &FailingMap<'t>, absent: &FailingItem<'t>, looks: &mut L
     );
 }
 
+// How many keys changed.
+fn count_changes<'t>(map: &FailingMap<'t>, other: &FailingMap<'t>) -> u64 {
+    let mut count = 0u64;
+    for _ in map.diff(other) {
+        count = count.wrapping_add(1);
+    }
+    count
+}
+
+// The first two maps have the same pairs.
+fn diffs<'t>(map: &FailingMap<'t>, other: &FailingMap<'t>, empty: &FailingMap<'t>) -> bool {
+    count_changes(map, other) == 0
+        && count_changes(map, empty) == 3
+        && count_changes(empty, map) == 3
+}
+
 // Each iterator is dropped after a step, and can be had again.
 fn walks_pairs<'t>(map: &FailingMap<'t>) -> bool {
     map.iter().next().is_some() && map.iter().count() == 3
@@ -288,9 +297,9 @@ fn walks<'t>(map: &FailingMap<'t>, looks: &mut Looks<'_, 't>) {
     looks.see("values", map.values().count() == 3);
 }
 
-impl<'t> Container<'t, Tests> for FailingMap<'t> {
+impl<'t> Subject<'t, Tests, MapCall> for FailingMap<'t> {
     // The degree. At 0 it is that of `new`. The numbers up to 3 have the hash 0, at 8 those up to 2, at 2 none but 0.
-    fn empty(variant: u8, faults: &'t Faults) -> Result<Self, AllocError> {
+    fn start(variant: u8, faults: &'t Faults) -> Result<Self, AllocError> {
         let floor = match variant {
             2 => 0,
             8 => 2,
@@ -304,15 +313,36 @@ impl<'t> Container<'t, Tests> for FailingMap<'t> {
         }
     }
 
-    fn looks_as(&self, _twin: &Self, _faults: &'t Faults) -> bool {
-        true
+    fn share(&mut self, _faults: &'t Faults) -> Result<Option<Self>, AllocError> {
+        always_some(self.clone())
+    }
+
+    fn is_as(&self, twin: &Self, _faults: &'t Faults) -> bool {
+        *self == *twin
     }
 
     // The hasher too.
-    fn held(&self) -> usize {
-        self.size().wrapping_mul(2).wrapping_add(1)
+    fn held(&self) -> Option<u64> {
+        Some((self.size() as u64).wrapping_mul(2).wrapping_add(1))
     }
 
+    fn perform(
+        &mut self,
+        call: MapCall,
+        number: u64,
+        faults: &'t Faults,
+    ) -> Result<bool, AllocError> {
+        match call {
+            Made(call) => {
+                let made = made(self, call, number, faults);
+                put_if_some(self, made)
+            }
+            Changed(call) => changed(self, call, number, faults),
+        }
+    }
+}
+
+impl<'t> Container<'t, Tests, MapCall> for FailingMap<'t> {
     fn looks(&self, other: &Self, empty: &Self, looks: &mut Looks<'_, 't>) {
         looks.see("size", self.size() == 3 && self.len() == 3);
         looks.see("is_empty", !self.is_empty() && empty.is_empty());
@@ -320,29 +350,10 @@ impl<'t> Container<'t, Tests> for FailingMap<'t> {
         gets_there(self, empty, &FailingItem::new(2, counts), looks);
         gets_absent(self, &FailingItem::new(9, counts), looks);
         looks.see("compared", *self == *other);
+        looks.see("diff", diffs(self, other, empty));
         looks.see("iter", walks_pairs(self));
         looks.see("into_iter", walks_into_pairs(self));
         walks(self, looks);
-    }
-
-    fn made(
-        &self,
-        call: Call,
-        number: u64,
-        faults: &'t Faults,
-    ) -> Result<Option<Self>, AllocError> {
-        match call {
-            Plain(change) => plain(self, change, number, faults),
-            Counted(change) => always_some(counted(self, change, number, faults)),
-            InPlace(_) | InPlaceCounted(_) => always_some(lacks(self)),
-        }
-    }
-
-    fn changed(&mut self, call: Call, number: u64, faults: &'t Faults) -> Result<bool, AllocError> {
-        match call {
-            InPlace(change) => changed(self, change, number, faults),
-            _ => no_such_call(),
-        }
     }
 }
 
@@ -358,12 +369,12 @@ pub(crate) const RECEIVERS: &[Receiver<'static>] = &[
 // Keys of the hash 0, there and not, and others.
 pub(crate) const NUMBERS: &[u64] = &[2, 0, 20, 52];
 
-const PLAN: Plan<'static, Call> = Plan {
-    put: InPlace(Put),
+const PLAN: Plan<'static, MapCall> = Plan {
+    put: Changed(InsertMut),
     receivers: RECEIVERS,
     numbers: NUMBERS,
-    calls: CALLS,
-    never_refused: &[InPlace(Clear)],
+    calls: &[],
+    never_refused: &[Changed(Clear)],
     empty_without_memory: &[0, 2, 4, 8, 16, 32, 64],
     without_memory: WITHOUT_MEMORY,
     limits: &[
@@ -373,47 +384,50 @@ const PLAN: Plan<'static, Call> = Plan {
     ],
 };
 
-const CALLS: &[Call] = &[
-    Plain(Put),
-    Plain(Take),
-    Plain(Set),
-    Plain(Reverse),
-    Plain(Collect),
-    Plain(Write),
-    Plain(Share),
-    Counted(Put),
-    Counted(Take),
-    Counted(Share),
-    InPlace(Put),
-    InPlace(Take),
-    InPlace(Set),
-    InPlace(Reverse),
-    InPlace(Insert),
-    InPlace(Lend),
-    InPlace(Write),
+// The calls that ask for memory or for a clone. Each list has a test of its own.
+const INSERTIONS: &[MapCall] = &[Made(Insert), Made(InsertCounted)];
+
+const INSERTIONS_IN_PLACE: &[MapCall] = &[Changed(InsertMut), Changed(GetOrInsertWith)];
+
+const REMOVALS: &[MapCall] = &[Made(Remove), Made(RemoveCounted)];
+
+const REMOVALS_IN_PLACE: &[MapCall] = &[Changed(RemoveMut)];
+
+const ALTERATIONS: &[MapCall] = &[Made(AlterValue), Made(AlterPresence)];
+
+const ALTERATIONS_IN_PLACE: &[MapCall] = &[Changed(AlterValueMut), Changed(AlterPresenceMut)];
+
+const LENDS: &[MapCall] = &[Changed(GetMut), Changed(ValueMut)];
+
+const BUILDS: &[MapCall] = &[
+    Made(FromIter),
+    Made(FromArray),
+    Made(Share),
+    Made(ShareCounted),
 ];
 
 // There is nothing to do, or another empty one is handed out, and no memory is needed.
-const WITHOUT_MEMORY: &[NoMemoryRow<'static, Call>] = &[
-    no_memory!(receiver!(&[]), calls: &[InPlace(Take)], at: 1, answer: false),
-    no_memory!(receiver!(&[]), calls: &[InPlace(Lend), InPlace(Write)], at: 1, answer: false),
-    no_memory!(receiver!(&[]), calls: &[Plain(Take), Counted(Take)], at: 1, answer: true),
-    no_memory!(receiver!(&[]), calls: &[Plain(Share), Counted(Share), Plain(Set)],
+const WITHOUT_MEMORY: &[NoMemoryRow<'static, MapCall>] = &[
+    no_memory!(receiver!(&[]), calls: &[Changed(RemoveMut)], at: 1, answer: false),
+    no_memory!(receiver!(&[]), calls: &[Changed(GetMut), Changed(ValueMut)], at: 1, answer: false),
+    no_memory!(receiver!(&[]), calls: &[Made(Remove), Made(RemoveCounted)], at: 1, answer: true),
+    no_memory!(receiver!(&[]), calls: &[Made(Share), Made(ShareCounted), Made(AlterValue)],
         at: 1, answer: true),
 ];
 
-// The keys are multiples of it, so that no hash agrees with another in fewer than 50 binary digits.
-const FAR: u64 = 1 << 50;
+// The keys are multiples of it, so that no hash agrees with another in fewer than 54 binary digits.
+const FAR: u64 = 1 << 54;
 
 // Keys of a large one.
-pub(crate) const STORED: &[u64] = &[0, FAR, 4_999 * FAR, 8_191 * FAR, 8_192 * FAR, 9_999 * FAR];
+pub(crate) const STORED: &[u64] = &[0, FAR, 499 * FAR, 511 * FAR, 512 * FAR, 999 * FAR];
 
 // Keys that aren't there.
-pub(crate) const ABSENT: &[u64] = &[10_000 * FAR, 16_383 * FAR];
+pub(crate) const ABSENT: &[u64] = &[1_000 * FAR, 1_023 * FAR];
 
-// At degree 2.
+// At degree 2. A thousand keys have the ten digits that are left, and the longest path has a node for each of all 64, and a leaf.
 pub(crate) const LARGE: LargeContainer = LargeContainer {
     variant: 2,
+    count: 1_000,
     step: FAR,
     limit: u64::MAX,
 };
@@ -435,57 +449,61 @@ const PAIR: u64 = COUNTS + 32;
 
 // Of 64 digits each: at most 65 nodes on the way to a key, two requests for each, and the pair where one is put in. A
 // removal in place copies no leaf.
-const ROWS: &[MemoryRow<'static, Call>] = &[
-    memory!(Alike, calls: &[Plain(Put), Counted(Put)], at: STORED,
+const ROWS: &[MemoryRow<'static, MapCall>] = &[
+    memory!(Alike, calls: &[Made(Insert), Made(InsertCounted)], at: STORED,
         requests: 131, bytes: PATH + PAIR),
-    memory!(Shared, calls: &[InPlace(Put), Plain(Set), InPlace(Set)], at: STORED,
-        requests: 131, bytes: PATH + PAIR),
-    memory!(Alike, calls: &[Plain(Put), Counted(Put)], at: ABSENT,
+    memory!(Shared, calls: &[Changed(InsertMut), Made(AlterValue), Changed(AlterValueMut)],
+        at: STORED, requests: 131, bytes: PATH + PAIR),
+    memory!(Alike, calls: &[Made(Insert), Made(InsertCounted)], at: ABSENT,
         requests: 131, bytes: PATH + PAIR),
     memory!(
         Shared,
-        calls: &[InPlace(Put), InPlace(Insert), Plain(Reverse), InPlace(Reverse)],
+        calls: &[Changed(InsertMut), Changed(GetOrInsertWith), Made(AlterPresence),
+            Changed(AlterPresenceMut)],
         at: ABSENT, requests: 131, bytes: PATH + PAIR
     ),
-    memory!(Alike, calls: &[Plain(Take), Counted(Take)], at: STORED, requests: 129, bytes: PATH),
-    memory!(Shared, calls: &[InPlace(Take), Plain(Reverse), InPlace(Reverse)], at: STORED,
-        requests: 128, bytes: PATH - LEAF),
-    memory!(Shared, calls: &[InPlace(Insert), InPlace(Lend), InPlace(Write)], at: STORED,
-        requests: 130, bytes: PATH + PAIR),
-    memory!(Alike, calls: &[Plain(Share), Counted(Share)], at: &[7], limit: NOTHING),
+    memory!(Alike, calls: &[Made(Remove), Made(RemoveCounted)], at: STORED,
+        requests: 129, bytes: PATH),
+    memory!(Shared, calls: &[Changed(RemoveMut), Made(AlterPresence), Changed(AlterPresenceMut)],
+        at: STORED, requests: 128, bytes: PATH - LEAF),
+    memory!(Shared, calls: &[Changed(GetOrInsertWith), Changed(GetMut), Changed(ValueMut)],
+        at: STORED, requests: 130, bytes: PATH + PAIR),
+    memory!(Alike, calls: &[Made(Share), Made(ShareCounted)], at: &[7], limit: NOTHING),
     // Three pairs at degree 64, where a hash has 11 digits.
-    memory!(Alike, calls: &[Plain(Collect)], at: &[7],
+    memory!(Alike, calls: &[Made(FromIter)], at: &[7],
         answer: false, requests: 3 * 25, bytes: 3 * (12 * (NODE + 64 * 8) + PAIR)),
     // And the array.
-    memory!(Alike, calls: &[Plain(Write)], at: &[7],
+    memory!(Alike, calls: &[Made(FromArray)], at: &[7],
         answer: false, requests: 3 * 25 + 1, bytes: 3 * (12 * (NODE + 64 * 8) + PAIR + 32)),
     // Alone: the pair, where one is put in.
-    memory!(Alone, calls: &[InPlace(Put)], at: STORED, requests: 1, bytes: PAIR),
-    memory!(Alone, calls: &[InPlace(Set)], at: STORED, requests: 1, bytes: PAIR),
-    memory!(Alone, calls: &[InPlace(Insert)], at: STORED, limit: NOTHING),
-    memory!(Alone, calls: &[InPlace(Lend)], at: STORED, limit: NOTHING),
-    memory!(Alone, calls: &[InPlace(Write)], at: STORED, limit: NOTHING),
-    memory!(Alone, calls: &[InPlace(Reverse)], at: &[7 * FAR, 9 * FAR], limit: NOTHING),
-    memory!(Alone, calls: &[InPlace(Take)], at: STORED, limit: NOTHING),
+    memory!(Alone, calls: &[Changed(InsertMut)], at: STORED, requests: 1, bytes: PAIR),
+    memory!(Alone, calls: &[Changed(AlterValueMut)], at: STORED, requests: 1, bytes: PAIR),
+    memory!(Alone, calls: &[Changed(GetOrInsertWith)], at: STORED, limit: NOTHING),
+    memory!(Alone, calls: &[Changed(GetMut)], at: STORED, limit: NOTHING),
+    memory!(Alone, calls: &[Changed(ValueMut)], at: STORED, limit: NOTHING),
+    memory!(Alone, calls: &[Changed(AlterPresenceMut)], at: &[7 * FAR, 9 * FAR], limit: NOTHING),
+    memory!(Alone, calls: &[Changed(RemoveMut)], at: STORED, limit: NOTHING),
 ];
 
 // Four keys of the hash 0, each put in again and again.
 pub(crate) const OF_ONE_HASH: LargeContainer = LargeContainer {
     variant: 4,
+    count: 100,
     step: 1,
     limit: 4,
 };
 
 // The row of what shares a hash is changed where it is.
-const ALONE_OF_ONE_HASH: &[MemoryRow<'static, Call>] = &[
-    memory!(Alone, calls: &[InPlace(Put)], at: &[0, 1, 2, 3], requests: 1, bytes: PAIR),
-    memory!(Alone, calls: &[InPlace(Lend)], at: &[0, 1, 2, 3], limit: NOTHING),
-    memory!(Alone, calls: &[InPlace(Take)], at: &[0, 2, 3], limit: NOTHING),
+const ALONE_OF_ONE_HASH: &[MemoryRow<'static, MapCall>] = &[
+    memory!(Alone, calls: &[Changed(InsertMut)], at: &[0, 1, 2, 3], requests: 1, bytes: PAIR),
+    memory!(Alone, calls: &[Changed(GetMut)], at: &[0, 1, 2, 3], limit: NOTHING),
+    memory!(Alone, calls: &[Changed(RemoveMut)], at: &[0, 2, 3], limit: NOTHING),
 ];
 
 // One key, put in again and again.
 pub(crate) const OF_ONE_KEY: LargeContainer = LargeContainer {
     variant: 2,
+    count: 100,
     step: 0,
     limit: 1,
 };
@@ -495,21 +513,69 @@ pub(crate) const FORKED: &[u64] = &[1 << 63];
 
 // A leaf that goes in place isn't copied, nor where another key is looked for. Beside it a fork at each of the 63 digits, and
 // one where they differ, each with a row that has room for four; a leaf for each key.
-const ONE_LEAF: &[MemoryRow<'static, Call>] = &[
-    memory!(Shared, calls: &[InPlace(Take)], at: &[0], limit: NOTHING),
-    memory!(Shared, calls: &[InPlace(Take)], at: FORKED, answer: false, limit: NOTHING),
-    memory!(Alike, calls: &[Plain(Put), Counted(Put)], at: FORKED,
+const ONE_LEAF: &[MemoryRow<'static, MapCall>] = &[
+    memory!(Shared, calls: &[Changed(RemoveMut)], at: &[0], limit: NOTHING),
+    memory!(Shared, calls: &[Changed(RemoveMut)], at: FORKED, answer: false, limit: NOTHING),
+    memory!(Alike, calls: &[Made(Insert), Made(InsertCounted)], at: FORKED,
         requests: 131, bytes: 64 * (NODE + 4 * 8) + 2 * NODE + PAIR),
 ];
 
+// Makes the calls with each request and each clone refused in turn.
+fn assert_refused(rt: &impl Abort, alloc: Global, calls: &'static [MapCall]) {
+    let faults = Faults::new(alloc);
+    check_some_refused::<Tests, MapCall, FailingMap>(&faults, &PLAN, calls).expect(rt, "each call");
+}
+
 #[test]
-fn calls(rt: HostRuntime) {
+fn insertions(rt: HostRuntime) {
+    assert_refused(&rt, rt.alloc(), INSERTIONS);
+}
+
+#[test]
+fn insertions_in_place(rt: HostRuntime) {
+    assert_refused(&rt, rt.alloc(), INSERTIONS_IN_PLACE);
+}
+
+#[test]
+fn removals(rt: HostRuntime) {
+    assert_refused(&rt, rt.alloc(), REMOVALS);
+}
+
+#[test]
+fn removals_in_place(rt: HostRuntime) {
+    assert_refused(&rt, rt.alloc(), REMOVALS_IN_PLACE);
+}
+
+#[test]
+fn alterations(rt: HostRuntime) {
+    assert_refused(&rt, rt.alloc(), ALTERATIONS);
+}
+
+#[test]
+fn alterations_in_place(rt: HostRuntime) {
+    assert_refused(&rt, rt.alloc(), ALTERATIONS_IN_PLACE);
+}
+
+#[test]
+fn lends(rt: HostRuntime) {
+    assert_refused(&rt, rt.alloc(), LENDS);
+}
+
+#[test]
+fn builds(rt: HostRuntime) {
+    assert_refused(&rt, rt.alloc(), BUILDS);
+}
+
+// What asks for no memory, and what is asked for among many entries.
+#[test]
+fn asked(rt: HostRuntime) {
     let faults = Faults::new(rt.alloc());
-    check_container::<Tests, FailingMap>(
+    check_container::<Tests, MapCall, FailingMap>(
         &faults,
         &PLAN,
+        Changed(Clear),
         &receiver!(variant: 8, &[1, 2, 3]),
         &receiver!(variant: 8, &[1, 2, 3]),
     )
-    .expect(&rt, "each call");
+    .expect(&rt, "each check");
 }

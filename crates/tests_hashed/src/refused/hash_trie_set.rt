@@ -3,30 +3,51 @@ use crate::refused::hash_trie_map::{
     ABSENT, COUNTS, FORKED, LARGE, LEAF, NODE, NUMBERS, OF_ONE_HASH, OF_ONE_KEY, PATH, RECEIVERS,
     STORED,
 };
+use crate::refused::hash_trie_set::SetChanged::{Clear, InsertMut, RemoveMut};
+use crate::refused::hash_trie_set::SetMade::{FromArray, FromIter, Insert, Remove, Share};
 use rpds_core::steps::Steps;
 use rpds_faults::{FailingAllocator, FailingItem, Faults, FlooredBuild};
 use rpds_hash::map::hash_trie_map::{DefaultBuildHasher, HashTrieMap};
 use rpds_hash::set::hash_trie_set::HashTrieSet;
-use rpds_refusals::answer::{always_some, always_true, has_number, no_such_call};
-use rpds_refusals::call::Call::{Counted, InPlace, InPlaceCounted, Plain};
-use rpds_refusals::call::Change::{
-    Append, Clear, Cloned, Collect, Extend, Insert, Keep, Lend, Put, Remove, Replay, Reverse, Set,
-    Share, Skip, Sorted, Take, Walk, Write,
-};
-use rpds_refusals::call::{Call, Change};
+use rpds_refusals::answer::{always_some, always_true, has_number, put_if_some};
+use rpds_refusals::call::Call;
+use rpds_refusals::call::Call::{Changed, Made};
 use rpds_refusals::check::check_container;
 use rpds_refusals::container::Container;
 use rpds_refusals::looks::Looks;
 use rpds_refusals::plan::Sharing::{Alike, Alone, Shared};
 use rpds_refusals::plan::{MemoryRow, NOTHING, NoMemoryRow, Plan};
+use rpds_refusals::refused::check_some_refused;
+use rpds_refusals::subject::Subject;
 use rpds_refusals::{memory, no_memory, receiver};
-use std::alloc::AllocError;
+use std::alloc::{AllocError, Global};
+use std::process::Abort;
 
 pub(crate) type FailingSet<'t> = HashTrieSet<
     FailingItem<'t>,
     FlooredBuild<'t>,
     &'t FailingAllocator,
 >;
+
+pub(crate) type SetCall = Call<SetMade, SetChanged>;
+
+// A call that hands out a set.
+#[derive(Clone, Copy, Debug)]
+pub(crate) enum SetMade {
+    Insert,
+    Remove,
+    FromIter,
+    FromArray,
+    Share,
+}
+
+// A call that changes the set.
+#[derive(Clone, Copy, Debug)]
+pub(crate) enum SetChanged {
+    InsertMut,
+    RemoveMut,
+    Clear,
+}
 
 // Makes a set of items, one of which may come twice, and drops it: its hasher is another one.
 fn collected<'t>(number: u64, faults: &'t Faults) -> Result<Option<FailingSet<'t>>, AllocError> {
@@ -58,57 +79,36 @@ fn of_array<'t>(number: u64, faults: &'t Faults) -> Result<Option<FailingSet<'t>
     Ok(None)
 }
 
-// What a set answers that doesn't have this call, or is full.
-fn lacks<'t>(_set: &FailingSet<'t>) -> Result<FailingSet<'t>, AllocError> {
-    no_such_call()
-}
-
-// `Write` makes a set of an array.
-fn plain<'t>(
+fn made<'t>(
     set: &FailingSet<'t>,
-    change: Change,
+    call: SetMade,
     number: u64,
     faults: &'t Faults,
 ) -> Result<Option<FailingSet<'t>>, AllocError> {
     let counts = &faults.counts;
-    match change {
-        Put => always_some(set.insert(FailingItem::new(number, counts))),
-        Take => always_some(set.remove(&FailingItem::new(number, counts))),
-        Collect => collected(number, faults),
-        Write => of_array(number, faults),
+    match call {
+        Insert => always_some(set.insert(FailingItem::new(number, counts))),
+        Remove => always_some(set.remove(&FailingItem::new(number, counts))),
+        FromIter => collected(number, faults),
+        FromArray => of_array(number, faults),
         Share => always_some(set.clone()),
-        Set
-        | Insert
-        | Remove
-        | Keep
-        | Skip
-        | Reverse
-        | Lend
-        | Cloned
-        | Extend
-        | Append
-        | Sorted
-        | Replay
-        | Walk
-        | Clear => { always_some(lacks(set)) }
     }
 }
 
 fn changed<'t>(
     set: &mut FailingSet<'t>,
-    change: Change,
+    call: SetChanged,
     number: u64,
     faults: &'t Faults,
 ) -> Result<bool, AllocError> {
     let counts = &faults.counts;
-    match change {
-        Put => always_true(set.insert_mut(FailingItem::new(number, counts))),
-        Take => set.remove_mut(&FailingItem::new(number, counts)),
+    match call {
+        InsertMut => always_true(set.insert_mut(FailingItem::new(number, counts))),
+        RemoveMut => set.remove_mut(&FailingItem::new(number, counts)),
         Clear => {
             set.clear();
             Ok(set.is_empty())
         }
-        _ => no_such_call(),
     }
 }
 
@@ -134,6 +134,22 @@ fn relates<'t>(set: &FailingSet<'t>, other: &FailingSet<'t>, looks: &mut Looks<'
     looks.see("is_superset", set.is_superset(other));
 }
 
+// How many members changed.
+fn count_changes<'t>(set: &FailingSet<'t>, other: &FailingSet<'t>) -> u64 {
+    let mut count = 0u64;
+    for _ in set.diff(other) {
+        count = count.wrapping_add(1);
+    }
+    count
+}
+
+// The first two sets have the same members.
+fn diffs<'t>(set: &FailingSet<'t>, other: &FailingSet<'t>, empty: &FailingSet<'t>) -> bool {
+    count_changes(set, other) == 0
+        && count_changes(set, empty) == 3
+        && count_changes(empty, set) == 3
+}
+
 // Each iterator is dropped after a step, and can be had again.
 fn walks<'t>(set: &FailingSet<'t>, looks: &mut Looks<'_, 't>) {
     looks.see(
@@ -147,9 +163,9 @@ fn walks<'t>(set: &FailingSet<'t>, looks: &mut Looks<'_, 't>) {
     looks.see("size_hint", set.iter().size_hint() == (3, Some(3)));
 }
 
-impl<'t> Container<'t, Tests> for FailingSet<'t> {
+impl<'t> Subject<'t, Tests, SetCall> for FailingSet<'t> {
     // The degree. At 0 it is that of `new`. The numbers up to 3 have the hash 0, at 8 those up to 2, at 2 none but 0.
-    fn empty(variant: u8, faults: &'t Faults) -> Result<Self, AllocError> {
+    fn start(variant: u8, faults: &'t Faults) -> Result<Self, AllocError> {
         let floor = match variant {
             2 => 0,
             8 => 2,
@@ -163,49 +179,52 @@ impl<'t> Container<'t, Tests> for FailingSet<'t> {
         }
     }
 
-    fn looks_as(&self, _twin: &Self, _faults: &'t Faults) -> bool {
-        true
+    fn share(&mut self, _faults: &'t Faults) -> Result<Option<Self>, AllocError> {
+        always_some(self.clone())
+    }
+
+    fn is_as(&self, twin: &Self, _faults: &'t Faults) -> bool {
+        *self == *twin
     }
 
     // The hasher too.
-    fn held(&self) -> usize {
-        self.size().wrapping_add(1)
+    fn held(&self) -> Option<u64> {
+        Some((self.size() as u64).wrapping_add(1))
     }
 
+    fn perform(
+        &mut self,
+        call: SetCall,
+        number: u64,
+        faults: &'t Faults,
+    ) -> Result<bool, AllocError> {
+        match call {
+            Made(call) => {
+                let made = made(self, call, number, faults);
+                put_if_some(self, made)
+            }
+            Changed(call) => changed(self, call, number, faults),
+        }
+    }
+}
+
+impl<'t> Container<'t, Tests, SetCall> for FailingSet<'t> {
     fn looks(&self, other: &Self, empty: &Self, looks: &mut Looks<'_, 't>) {
         looks.see("size", self.size() == 3 && self.len() == 3);
         looks.see("is_empty", !self.is_empty() && empty.is_empty());
         gets(self, empty, looks);
         relates(self, other, looks);
+        looks.see("diff", diffs(self, other, empty));
         walks(self, looks);
-    }
-
-    fn made(
-        &self,
-        call: Call,
-        number: u64,
-        faults: &'t Faults,
-    ) -> Result<Option<Self>, AllocError> {
-        match call {
-            Plain(change) => plain(self, change, number, faults),
-            Counted(_) | InPlace(_) | InPlaceCounted(_) => always_some(lacks(self)),
-        }
-    }
-
-    fn changed(&mut self, call: Call, number: u64, faults: &'t Faults) -> Result<bool, AllocError> {
-        match call {
-            InPlace(change) => changed(self, change, number, faults),
-            _ => no_such_call(),
-        }
     }
 }
 
-const PLAN: Plan<'static, Call> = Plan {
-    put: InPlace(Put),
+const PLAN: Plan<'static, SetCall> = Plan {
+    put: Changed(InsertMut),
     receivers: RECEIVERS,
     numbers: NUMBERS,
-    calls: CALLS,
-    never_refused: &[InPlace(Clear)],
+    calls: &[],
+    never_refused: &[Changed(Clear)],
     empty_without_memory: &[0, 2, 4, 8, 16, 32, 64],
     without_memory: WITHOUT_MEMORY,
     limits: &[
@@ -215,62 +234,82 @@ const PLAN: Plan<'static, Call> = Plan {
     ],
 };
 
-const CALLS: &[Call] = &[
-    Plain(Put),
-    Plain(Take),
-    Plain(Collect),
-    Plain(Write),
-    Plain(Share),
-    InPlace(Put),
-    InPlace(Take),
-];
+// The calls that ask for memory or for a clone. Each list has a test of its own.
+const CHANGES: &[SetCall] = &[Made(Insert), Made(Remove)];
+
+const CHANGES_IN_PLACE: &[SetCall] = &[Changed(InsertMut), Changed(RemoveMut)];
+
+const BUILDS: &[SetCall] = &[Made(FromIter), Made(FromArray), Made(Share)];
 
 // There is nothing to do, or another empty one is handed out, and no memory is needed.
-const WITHOUT_MEMORY: &[NoMemoryRow<'static, Call>] = &[
-    no_memory!(receiver!(&[]), calls: &[InPlace(Take)], at: 1, answer: false),
-    no_memory!(receiver!(&[]), calls: &[Plain(Take), Plain(Share)], at: 1, answer: true),
+const WITHOUT_MEMORY: &[NoMemoryRow<'static, SetCall>] = &[
+    no_memory!(receiver!(&[]), calls: &[Changed(RemoveMut)], at: 1, answer: false),
+    no_memory!(receiver!(&[]), calls: &[Made(Remove), Made(Share)], at: 1, answer: true),
 ];
 
 // The bytes of an item.
 const ITEM: u64 = COUNTS + 16;
 
 // As much as those of a map.
-const ROWS: &[MemoryRow<'static, Call>] = &[
-    memory!(Alike, calls: &[Plain(Put)], at: STORED, requests: 131, bytes: PATH + ITEM),
-    memory!(Shared, calls: &[InPlace(Put)], at: STORED, requests: 131, bytes: PATH + ITEM),
-    memory!(Alike, calls: &[Plain(Put)], at: ABSENT, requests: 131, bytes: PATH + ITEM),
-    memory!(Shared, calls: &[InPlace(Put)], at: ABSENT, requests: 131, bytes: PATH + ITEM),
-    memory!(Alike, calls: &[Plain(Take)], at: STORED, requests: 129, bytes: PATH),
-    memory!(Shared, calls: &[InPlace(Take)], at: STORED, requests: 128, bytes: PATH - LEAF),
-    memory!(Alike, calls: &[Plain(Share)], at: &[7], limit: NOTHING),
-    memory!(Alike, calls: &[Plain(Collect)], at: &[7],
+const ROWS: &[MemoryRow<'static, SetCall>] = &[
+    memory!(Alike, calls: &[Made(Insert)], at: STORED, requests: 131, bytes: PATH + ITEM),
+    memory!(Shared, calls: &[Changed(InsertMut)], at: STORED, requests: 131, bytes: PATH + ITEM),
+    memory!(Alike, calls: &[Made(Insert)], at: ABSENT, requests: 131, bytes: PATH + ITEM),
+    memory!(Shared, calls: &[Changed(InsertMut)], at: ABSENT, requests: 131, bytes: PATH + ITEM),
+    memory!(Alike, calls: &[Made(Remove)], at: STORED, requests: 129, bytes: PATH),
+    memory!(Shared, calls: &[Changed(RemoveMut)], at: STORED, requests: 128, bytes: PATH - LEAF),
+    memory!(Alike, calls: &[Made(Share)], at: &[7], limit: NOTHING),
+    memory!(Alike, calls: &[Made(FromIter)], at: &[7],
         answer: false, requests: 3 * 25, bytes: 3 * (12 * (NODE + 64 * 8) + ITEM)),
     // And the array.
-    memory!(Alike, calls: &[Plain(Write)], at: &[7],
+    memory!(Alike, calls: &[Made(FromArray)], at: &[7],
         answer: false, requests: 3 * 25 + 1, bytes: 3 * (12 * (NODE + 64 * 8) + ITEM + 16)),
     // Alone: the item, where one is put in.
-    memory!(Alone, calls: &[InPlace(Put)], at: STORED, requests: 1, bytes: ITEM),
-    memory!(Alone, calls: &[InPlace(Take)], at: STORED, limit: NOTHING),
+    memory!(Alone, calls: &[Changed(InsertMut)], at: STORED, requests: 1, bytes: ITEM),
+    memory!(Alone, calls: &[Changed(RemoveMut)], at: STORED, limit: NOTHING),
 ];
 
-const ALONE_OF_ONE_HASH: &[MemoryRow<'static, Call>] = &[
-    memory!(Alone, calls: &[InPlace(Put)], at: &[0, 1, 2, 3], requests: 1, bytes: ITEM),
-    memory!(Alone, calls: &[InPlace(Take)], at: &[0, 2, 3], limit: NOTHING),
+const ALONE_OF_ONE_HASH: &[MemoryRow<'static, SetCall>] = &[
+    memory!(Alone, calls: &[Changed(InsertMut)], at: &[0, 1, 2, 3], requests: 1, bytes: ITEM),
+    memory!(Alone, calls: &[Changed(RemoveMut)], at: &[0, 2, 3], limit: NOTHING),
 ];
 
-const FORKS: &[MemoryRow<'static, Call>] = &[memory!(Alike, calls: &[Plain(Put)], at: FORKED,
+const FORKS: &[MemoryRow<'static, SetCall>] = &[memory!(Alike, calls: &[Made(Insert)], at: FORKED,
         requests: 131, bytes: 64 * (NODE + 4 * 8) + 2 * NODE + ITEM)];
 
+// Makes the calls with each request and each clone refused in turn.
+fn assert_refused(rt: &impl Abort, alloc: Global, calls: &'static [SetCall]) {
+    let faults = Faults::new(alloc);
+    check_some_refused::<Tests, SetCall, FailingSet>(&faults, &PLAN, calls).expect(rt, "each call");
+}
+
 #[test]
-fn calls(rt: HostRuntime) {
+fn changes(rt: HostRuntime) {
+    assert_refused(&rt, rt.alloc(), CHANGES);
+}
+
+#[test]
+fn changes_in_place(rt: HostRuntime) {
+    assert_refused(&rt, rt.alloc(), CHANGES_IN_PLACE);
+}
+
+#[test]
+fn builds(rt: HostRuntime) {
+    assert_refused(&rt, rt.alloc(), BUILDS);
+}
+
+// What asks for no memory, and what is asked for among many members.
+#[test]
+fn asked(rt: HostRuntime) {
     let faults = Faults::new(rt.alloc());
-    check_container::<Tests, FailingSet>(
+    check_container::<Tests, SetCall, FailingSet>(
         &faults,
         &PLAN,
+        Changed(Clear),
         &receiver!(variant: 8, &[1, 2, 3]),
         &receiver!(variant: 8, &[1, 2, 3]),
     )
-    .expect(&rt, "each call");
+    .expect(&rt, "each check");
 }
 
 fn is_empty_map(map: HashTrieMap<u64, u64, DefaultBuildHasher, &FailingAllocator>) -> bool {

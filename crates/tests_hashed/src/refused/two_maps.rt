@@ -9,16 +9,18 @@ use rpds_refusals::check::check_calls;
 use rpds_refusals::item::pair;
 use rpds_refusals::plan::Sharing::Shared;
 use rpds_refusals::plan::{LargeContainer, MemoryRow, Plan, Receiver};
+use rpds_refusals::refused::check_some_refused;
 use rpds_refusals::subject::Subject;
 use rpds_refusals::{memory, receivers};
-use std::alloc::AllocError;
+use std::alloc::{AllocError, Global};
 use std::cell::Cell;
+use std::process::Abort;
 use std::rc::Rc;
 
 // A pair that several maps share.
 type SharedPair<'t> = Rc<Entry<FailingItem<'t>, FailingItem<'t>>, &'t FailingAllocator>;
 
-/// The calls of two maps.
+// The calls of two maps.
 #[derive(Clone, Copy, Debug)]
 enum TwoCall {
     Put,
@@ -28,7 +30,7 @@ enum TwoCall {
     Difference,
     SymmetricDifference,
     Merge,
-    /// With a closure that fails.
+    // With a closure that fails.
     FailingUnionWith,
     FailingMerge,
     InsertShared,
@@ -278,7 +280,7 @@ fn combine_with_another<'t>(
     put_in_place(map, made)
 }
 
-/// A map that is combined with another one.
+// A map that is combined with another one.
 #[derive(Drop)]
 struct Combined<'t> {
     map: FailingMap<'t>,
@@ -348,32 +350,42 @@ const PLAN: Plan<'static, TwoCall> = Plan {
     put: TwoCall::Put,
     receivers: RECEIVERS,
     numbers: &[2, 20, 52],
-    calls: &[
-        TwoCall::Union,
-        TwoCall::UnionWith,
-        TwoCall::Intersection,
-        TwoCall::Difference,
-        TwoCall::SymmetricDifference,
-        TwoCall::Merge,
-        TwoCall::FailingUnionWith,
-        TwoCall::FailingMerge,
-        TwoCall::InsertShared,
-        TwoCall::InsertSharedInPlace,
-        TwoCall::CopyFrom,
-        TwoCall::CopyFromInPlace,
-        TwoCall::UnionOfVersions,
-        TwoCall::UnionOfOther,
-        TwoCall::IntersectionOfOther,
-    ],
+    calls: &[],
     never_refused: &[],
     empty_without_memory: &[0],
     without_memory: &[],
     limits: &[(LARGE, ROWS)],
 };
 
+// The calls that ask for memory or for a clone. Each list has a test of its own.
+const UNIONS: &[TwoCall] = &[TwoCall::Union];
+
+const UNIONS_OF_VERSIONS: &[TwoCall] = &[TwoCall::UnionOfVersions];
+
+const UNIONS_WITH: &[TwoCall] = &[TwoCall::UnionWith];
+
+const FAILING_UNIONS_WITH: &[TwoCall] = &[TwoCall::FailingUnionWith];
+
+const OF_OTHER_DEGREES: &[TwoCall] = &[TwoCall::UnionOfOther, TwoCall::IntersectionOfOther];
+
+const INTERSECTIONS: &[TwoCall] = &[TwoCall::Intersection];
+
+const DIFFERENCES: &[TwoCall] = &[TwoCall::Difference];
+
+const SYMMETRIC_DIFFERENCES: &[TwoCall] = &[TwoCall::SymmetricDifference];
+
+const MERGES: &[TwoCall] = &[TwoCall::Merge];
+
+const FAILING_MERGES: &[TwoCall] = &[TwoCall::FailingMerge];
+
+const SHARED: &[TwoCall] = &[TwoCall::InsertShared, TwoCall::InsertSharedInPlace];
+
+const COPIES: &[TwoCall] = &[TwoCall::CopyFrom, TwoCall::CopyFromInPlace];
+
 // 10,000 numbers.
 const LARGE: LargeContainer = LargeContainer {
     variant: 0,
+    count: 10_000,
     step: 1,
     limit: u64::MAX,
 };
@@ -434,8 +446,69 @@ const UNITED: u64 = 57 * 2 + 28 * (4 * 2 + 1) + 72 * (3 * 2 + 1);
 
 const UNITED_BYTES: u64 = (57 + 28 * 4 + 72 * 3) * BRANCH + 100 * NODE;
 
+// Makes the calls with each request and each clone refused in turn.
+fn assert_refused(rt: &impl Abort, alloc: Global, calls: &'static [TwoCall]) {
+    let faults = Faults::new(alloc);
+    check_some_refused::<Tests, TwoCall, Combined>(&faults, &PLAN, calls).expect(rt, "each call");
+}
+
 #[test]
-fn calls(rt: HostRuntime) {
+fn unions(rt: HostRuntime) {
+    assert_refused(&rt, rt.alloc(), UNIONS);
+}
+
+#[test]
+fn unions_of_versions(rt: HostRuntime) {
+    assert_refused(&rt, rt.alloc(), UNIONS_OF_VERSIONS);
+}
+
+#[test]
+fn unions_with(rt: HostRuntime) {
+    assert_refused(&rt, rt.alloc(), UNIONS_WITH);
+}
+
+#[test]
+fn failing_unions_with(rt: HostRuntime) {
+    assert_refused(&rt, rt.alloc(), FAILING_UNIONS_WITH);
+}
+
+#[test]
+fn of_other_degrees(rt: HostRuntime) {
+    assert_refused(&rt, rt.alloc(), OF_OTHER_DEGREES);
+}
+
+#[test]
+fn differences(rt: HostRuntime) {
+    assert_refused(&rt, rt.alloc(), DIFFERENCES);
+}
+
+#[test]
+fn symmetric_differences(rt: HostRuntime) {
+    assert_refused(&rt, rt.alloc(), SYMMETRIC_DIFFERENCES);
+}
+
+#[test]
+fn merges(rt: HostRuntime) {
+    assert_refused(&rt, rt.alloc(), MERGES);
+}
+
+#[test]
+fn failing_merges(rt: HostRuntime) {
+    assert_refused(&rt, rt.alloc(), FAILING_MERGES);
+}
+
+#[test]
+fn shared(rt: HostRuntime) {
+    assert_refused(&rt, rt.alloc(), SHARED);
+}
+
+#[test]
+fn copies(rt: HostRuntime) {
+    assert_refused(&rt, rt.alloc(), COPIES);
+}
+
+#[test]
+fn asked(rt: HostRuntime) {
     let faults = Faults::new(rt.alloc());
-    check_calls::<Tests, TwoCall, Combined>(&faults, &PLAN).expect(&rt, "each call");
+    check_calls::<Tests, TwoCall, Combined>(&faults, &PLAN).expect(&rt, "each check");
 }

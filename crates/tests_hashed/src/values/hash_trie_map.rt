@@ -2,6 +2,7 @@
 mod algebra;
 mod compared;
 mod counted;
+mod diffs;
 pub(crate) mod keys;
 mod merges;
 pub(crate) mod random;

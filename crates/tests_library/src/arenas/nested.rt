@@ -128,7 +128,7 @@ fn equal_sums_get_one_id(rt: HostRuntime) {
     assert_shared(&rt, &mut with_hasher);
 }
 
-/// A number that is equal to all of its id, whatever its tag.
+// A number that is equal to all of its id, whatever its tag.
 #[derive(Clone, Drop)]
 #[derive_where(PartialEq, Eq, Hash)]
 struct Tagged {

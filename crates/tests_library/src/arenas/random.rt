@@ -53,7 +53,7 @@ fn put(rt: &impl Abort, arena: &mut Arena<u64>, items: &mut Vec<u64>, numbers: &
 
 // A version from before some calls has the items that it had.
 #[test]
-fn an_arena_goes_as_std_s_vec(rt: HostRuntime) {
+fn an_arena_agrees_with_a_vec(rt: HostRuntime) {
     let mut numbers = Numbers::new();
     let mut arena = Arena::new(rt.alloc());
     let mut items = Vec::new(rt.alloc());

@@ -9,6 +9,7 @@ use rpds_refusals::plan::{LargeContainer, MemoryRow, Plan};
 use rpds_refusals::subject::Subject;
 use rpds_refusals::{memory, no_memory, receiver, receivers};
 use std::alloc::AllocError;
+use std::iter::{Extend, FromIterator};
 
 // The tag of ids. It has no lifetime, as the items have.
 struct Tag;
@@ -21,6 +22,8 @@ type FailingInterner<'t> = Interner<FailingItem<'t>, Tag, FlooredBuild<'t>, &'t 
 #[derive(Clone, Copy, Debug)]
 enum ArenaCall {
     Put,
+    Extend,
+    Collect,
     Share,
     Cloned,
     Fold,
@@ -83,6 +86,15 @@ impl<'t> Subject<'t, Tests, ArenaCall> for FailingArena<'t> {
                 let before = self.len();
                 let id = self.put(FailingItem::new(number, &faults.counts))?;
                 Ok(id.number() == before)
+            }
+            ArenaCall::Extend => {
+                Extend::extend(self, [FailingItem::new(number, &faults.counts)])?;
+                Ok(true)
+            }
+            ArenaCall::Collect => {
+                let items = [FailingItem::new(number, &faults.counts)];
+                let made: Self = FromIterator::from_iter(&faults.alloc, items)?;
+                Ok(put_back(self, made))
             }
             ArenaCall::Share => {
                 let made = Arena::clone(self)?;
@@ -149,6 +161,7 @@ const PATH: u64 = 3 * (24 + 48 + 32 * 8);
 
 const LARGE: LargeContainer = LargeContainer {
     variant: 0,
+    count: 10_000,
     step: 1,
     limit: 10_000,
 };
@@ -169,11 +182,14 @@ const FOLDS: &[MemoryRow<'static, ArenaCall>] = &[
 const PATH_TO_ID: u64 = 12 * (24 + 56 + 64 * 8);
 
 // A new value asks for what it asks for in an arena, for two requests for each node on the way to its id, and for one that holds
-// both; it is cloned once. A known one asks for nothing, and another version for a clone of the hasher.
+// both; it is cloned once. Of the nodes on both ways those alone count that another version shares: else the id takes a leaf, and a
+// row that grows. A known value asks for nothing, and another version for a clone of the hasher.
 const INTERNED: &[MemoryRow<'static, InternerCall>] = &[
     memory!(Shared, calls: &[InternerCall::Intern], at: &[10_000],
         clones: 1, requests: 8 + 25, bytes: PATH + ITEM + PATH_TO_ID + 24 + 24),
     memory!(Shared, calls: &[InternerCall::Share], at: &[7], clones: 1, requests: 0, bytes: 0),
+    memory!(Alone, calls: &[InternerCall::Intern], at: &[10_000],
+        clones: 1, requests: 2 + 3, bytes: 32 * 8 + ITEM + 24 + 56 + 64 * 8 + 24 + 24),
     memory!(Alone, calls: &[InternerCall::Intern], at: &[7],
         answer: false, clones: 0, requests: 0, bytes: 0),
 ];
@@ -182,7 +198,7 @@ const ARENA_PLAN: Plan<'static, ArenaCall> = Plan {
     put: ArenaCall::Put,
     receivers: receivers![&[], &[5, 5, 6]],
     numbers: &[5, 7],
-    calls: &[ArenaCall::Put],
+    calls: &[ArenaCall::Put, ArenaCall::Extend, ArenaCall::Collect],
     never_refused: &[ArenaCall::Share, ArenaCall::Cloned],
     empty_without_memory: &[0],
     without_memory: &[],

@@ -1,5 +1,6 @@
 //! Keys looked up by another form of them: texts by `&str`, lists of numbers by slices.
 use crate::red_black_tree_map::scenarios::{copied, put};
+use crate::red_black_tree_map::walks::steps;
 use rpds_faults::{FailingAllocator, requests};
 use rpds_tree::map::red_black_tree_map::RedBlackTreeMap;
 use rpds_tree::set::red_black_tree_set::RedBlackTreeSet;
@@ -239,6 +240,30 @@ fn strs_bound_a_range(rt: HostRuntime) {
         assert!(rt; sizes(&rt, &map, *start, *end) == [*size; 4]);
     }
     assert!(rt; map.size() == 5);
+}
+
+// How many words are within some of std's ranges: of a map, and of a set.
+#[test]
+fn strs_end_a_range_of_std(rt: HostRuntime) {
+    let map = words_of_three(&rt, rt.alloc());
+    assert!(rt; steps(map.range_of_forms("b".."dog")) == 1);
+    assert!(rt; steps(map.range_of_forms("b"..="dog")) == 2);
+    let alloc = FailingAllocator::new(rt.alloc());
+    let map = words(&rt, &alloc, rt.alloc());
+    assert!(rt; steps(map.range_of_forms("b".."cow")) == 2);
+    assert!(rt; steps(map.range_of_forms(..="cow")) == 4);
+    assert!(rt; map.range_of_forms("d".."b").next().is_none());
+}
+
+#[test]
+fn strs_end_a_range_of_a_set(rt: HostRuntime) {
+    let mut set = RedBlackTreeSet::new(rt.alloc());
+    for number in 8u64..12 {
+        set.insert_mut(text_of(&rt, rt.alloc(), number))
+            .expect(&rt, "ample memory");
+    }
+    assert!(rt; steps(set.range_of_forms("10".."9")) == 3);
+    assert!(rt; steps(set.range_of_forms("11"..)) == 3);
 }
 
 // The sizes of what lies below a text and above it, and the place of what lies at it.

@@ -39,7 +39,7 @@ fn assert_same(rt: &impl Abort, map: &NumberMap, model: &Model, keys: u64) {
     }
 }
 
-/// A walk of the map gives the pairs of std's, and then nothing.
+// A walk of the map gives the pairs of std's, and then nothing.
 pub(crate) fn assert_same_walk(rt: &impl Abort, map: &NumberMap, model: &Model) {
     let mut walk = map.into_iter();
     for pair in model {
@@ -79,7 +79,7 @@ fn write_to_model(model: &mut Model, key: u64, value: u64) -> bool {
     write_number(model.get_mut(&key), value)
 }
 
-/// Puts the pair in, or takes the key out, by one of four calls, and tells whether it took a key out.
+// Puts the pair in, or takes the key out, by one of four calls, and tells whether it took a key out.
 pub(crate) fn change_in_place<K: Ord + Copy + Drop, V: Drop>(
     map: &mut RedBlackTreeMap<K, V>,
     key: K,
@@ -103,7 +103,7 @@ fn nothing_taken(answer: Result<(), AllocError>) -> Result<bool, AllocError> {
     }
 }
 
-/// The same by a call that hands out a map.
+// The same by a call that hands out a map.
 pub(crate) fn changed<K: Ord + Copy + Drop, V: Drop>(
     map: &RedBlackTreeMap<K, V>,
     key: K,

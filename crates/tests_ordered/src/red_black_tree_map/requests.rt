@@ -80,7 +80,7 @@ fn absent_keys_of_a_shared_map_take_no_memory(rt: HostRuntime) {
 }
 
 // How many pairs stay whose flags are true, and the requests for that.
-fn selected(
+fn kept_by_flags(
     rt: &impl Abort,
     map: &CountedMap<'_>,
     keeps: &[bool],
@@ -93,7 +93,7 @@ fn selected(
 }
 
 // The same where all go whose places are multiples of a step.
-fn select_all_but(
+fn keep_all_but(
     rt: &impl Abort,
     map: &CountedMap<'_>,
     step: u64,
@@ -106,11 +106,11 @@ fn select_all_but(
             .push(place % step.max(1) != 0)
             .expect(rt, "ample memory");
     }
-    selected(rt, map, &keeps, alloc)
+    kept_by_flags(rt, map, &keeps, alloc)
 }
 
 // The same where the pairs of the 200 least keys go.
-fn select_all_but_first(
+fn keep_all_but_first(
     rt: &impl Abort,
     map: &CountedMap<'_>,
     alloc: &FailingAllocator<Global>,
@@ -120,7 +120,7 @@ fn select_all_but_first(
     for place in 0..10_000u64 {
         keeps.push(place >= 200).expect(rt, "ample memory");
     }
-    selected(rt, map, &keeps, alloc)
+    kept_by_flags(rt, map, &keeps, alloc)
 }
 
 // A step, how many pairs stay, and the requests for that.
@@ -131,9 +131,9 @@ fn pairs_that_stay_take_a_node_each(rt: HostRuntime) {
     let alloc = FailingAllocator::new(rt.alloc());
     let map = ten_thousand(&rt, &alloc);
     for (step, found) in STAYS {
-        assert!(rt; select_all_but(&rt, &map, step, &alloc, rt.alloc()) == found);
+        assert!(rt; keep_all_but(&rt, &map, step, &alloc, rt.alloc()) == found);
     }
-    let (size, few) = select_all_but(&rt, &map, 10_000, &alloc, rt.alloc());
+    let (size, few) = keep_all_but(&rt, &map, 10_000, &alloc, rt.alloc());
     assert!(rt; size == 9_999 && 0 < few && few < 20);
 }
 
@@ -143,7 +143,7 @@ fn pairs_that_stay_take_a_node_each(rt: HostRuntime) {
 fn pairs_that_go_share_the_nodes_that_were_copied(rt: HostRuntime) {
     let alloc = FailingAllocator::new(rt.alloc());
     let map = ten_thousand(&rt, &alloc);
-    let (size, copied) = select_all_but_first(&rt, &map, &alloc, rt.alloc());
+    let (size, copied) = keep_all_but_first(&rt, &map, &alloc, rt.alloc());
     assert!(rt; size == 9_800 && 0 < copied && copied < 1_200);
 }
 

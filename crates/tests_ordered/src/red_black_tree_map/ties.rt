@@ -12,7 +12,7 @@ type Stored = Option<(char, u64)>;
 // Two maps: what their ids are below, and one of how many each of them has.
 type Sizes = (u64, u64, u64);
 
-/// What makes a map of two.
+// What makes a map of two.
 #[derive(Clone, Copy, Debug)]
 enum Call {
     Union,
@@ -41,14 +41,15 @@ const ROWS: [(Call, [Stored; 3]); 8] = [
     (Call::Update, [Some(('b', 3)), OURS, THEIRS]),
 ];
 
-const SIZES: [Sizes; 6] = [
-    (3, 1, 2),
-    (70, 2, 3),
-    (5_000, 2, 3),
-    (5_000, 40, 1),
-    (5_000, 1, 40),
-    (2_000, 400, 1),
-];
+// Few, and more than the 512 of which each is looked up in the other map.
+const AS_MANY: [Sizes; 3] = [(3, 1, 2), (70, 2, 3), (2_000, 2, 3)];
+
+// The smaller one has more than the 64 that are cut as a slice.
+const FEWER_OF_OURS: Sizes = (2_000, 20, 1);
+
+const FEWER_OF_THEIRS: Sizes = (2_000, 1, 20);
+
+const FIVE_OF_OURS: Sizes = (2_000, 400, 1);
 
 // Whether a map has the id that has one of so many, in no simple order.
 fn has(id: u64, of: u64) -> bool {
@@ -136,7 +137,7 @@ fn assert_row(
     }
 }
 
-// A key that goes is told as our map has it, and one that stays or comes as theirs has it.
+// A key that goes is shown as our map has it, and one that stays or comes as theirs has it.
 fn assert_changes(rt: &impl Abort, ours: &TaggedMap, theirs: &TaggedMap, sizes: Sizes) {
     let (_, our_of, their_of) = sizes;
     for change in ours.diff(theirs) {
@@ -165,8 +166,23 @@ fn assert_sizes(rt: &impl Abort, alloc: Global, sizes: Sizes) {
 }
 
 #[test]
-fn the_key_that_stays_is_told(rt: HostRuntime) {
-    for sizes in &SIZES {
+fn the_right_key_stays(rt: HostRuntime) {
+    for sizes in &AS_MANY {
         assert_sizes(&rt, rt.alloc(), *sizes);
     }
+}
+
+#[test]
+fn the_right_key_stays_of_fewer_of_ours(rt: HostRuntime) {
+    assert_sizes(&rt, rt.alloc(), FEWER_OF_OURS);
+}
+
+#[test]
+fn the_right_key_stays_of_fewer_of_theirs(rt: HostRuntime) {
+    assert_sizes(&rt, rt.alloc(), FEWER_OF_THEIRS);
+}
+
+#[test]
+fn the_right_key_stays_of_five_of_ours(rt: HostRuntime) {
+    assert_sizes(&rt, rt.alloc(), FIVE_OF_OURS);
 }

@@ -6,6 +6,7 @@ use rpds_faults::FailingAllocator;
 use rpds_tree::map::red_black_tree_map::RedBlackTreeMap;
 use std::alloc::Global;
 use std::collections::BTreeMap;
+use std::iter::FusedIterator;
 use std::ops::Bound::{self, Excluded, Included, Unbounded};
 use std::process::Abort;
 
@@ -113,7 +114,7 @@ fn the_ends_of_a_range_meet(rt: HostRuntime) {
 }
 
 // How many steps the walk takes.
-fn steps<T: Drop, I: Iterator<Item = T> + Drop>(walk: I) -> u64
+pub(crate) fn steps<T: Drop, I: Iterator<Item = T> + Drop>(walk: I) -> u64
     requires can { I.can_next walk }
     requires ends { IsFinite (I.remaining walk) }
 {
@@ -132,4 +133,41 @@ fn no_walk_takes_memory(rt: HostRuntime) {
     assert!(rt; steps(map.iter()) == 1000);
     assert!(rt; steps(map.range(Excluded(&10), Excluded(&991))) == 980);
     assert!(rt; alloc.until_failure() == 1);
+}
+
+// A copy goes on from the same place, and neither gives anything behind its end.
+#[test]
+fn copies_of_walks(rt: HostRuntime) {
+    let map = map_of(&rt, rt.alloc(), &[1, 2, 3]);
+    let less = map_of(&rt, rt.alloc(), &[1]);
+    let mut changes = less.diff(&map);
+    assert!(rt; changes.next().is_some());
+    let copy = changes.clone().expect(&rt, "ample memory");
+    assert!(rt; steps(copy) == 1 && changes.next().is_some());
+    assert!(rt; changes.next().is_none() && changes.next().is_none());
+    let mut range = map.range_of(2..9);
+    assert!(rt; range.next() == Some((&2, &20)));
+    let copy = range.clone().expect(&rt, "ample memory");
+    assert!(rt; steps(copy) == 1 && range.next_back() == Some((&3, &30)));
+}
+
+// Whether nothing comes behind the end of a walk of at most three steps.
+pub(crate) fn ends_for_good<T: Drop, I: FusedIterator<Item = T> + Drop>(mut walk: I) -> bool
+    requires { (it : I) → I.can_next it }
+{
+    let _first = walk.next();
+    let _second = walk.next();
+    let _third = walk.next();
+    walk.next().is_none() && walk.next().is_none()
+}
+
+#[test]
+fn walks_end_for_good(rt: HostRuntime) {
+    let map = map_of(&rt, rt.alloc(), &[1, 2, 3]);
+    let less = map_of(&rt, rt.alloc(), &[1]);
+    assert!(rt; ends_for_good(map.iter()));
+    assert!(rt; ends_for_good(map.keys()));
+    assert!(rt; ends_for_good(map.values()));
+    assert!(rt; ends_for_good(map.range_of(2..9)));
+    assert!(rt; ends_for_good(less.diff(&map)));
 }

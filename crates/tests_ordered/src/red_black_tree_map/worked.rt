@@ -4,7 +4,10 @@ use crate::red_black_tree_map::scenarios::{copied, numbers_to, put};
 use rpds_faults::texts_are;
 use rpds_list::list::List;
 use rpds_tree::map::red_black_tree_map::RedBlackTreeMap;
+use std::alloc::Global;
 use std::cell::Cell;
+use std::io;
+use std::iter::Extend;
 use std::process::Abort;
 
 // Counts the key, and in `made` each value that is made for one.
@@ -39,6 +42,38 @@ fn collected(rt: HostRuntime) {
     let wanted = numbers_to(&rt, rt.alloc(), 3);
     assert!(rt; RedBlackTreeMap::from_iter(rt.alloc(), pairs).is_ok_and(|map| map == wanted));
     assert!(rt; RedBlackTreeMap::from_array(rt.alloc(), pairs).is_ok_and(|map| map == wanted));
+}
+
+// By references to keys and values, in the order in which they come.
+#[test]
+fn extended_by_copies(rt: HostRuntime) {
+    let mut map = numbers_to(&rt, rt.alloc(), 1);
+    let more = numbers_to(&rt, rt.alloc(), 3);
+    Extend::extend(&mut map, &more).expect(&rt, "ample memory");
+    assert!(rt; map == more);
+}
+
+// Doubles the value of a key.
+fn double(map: &mut RedBlackTreeMap<u64, u64>, key: u64) -> io::Result<()> {
+    let value = map.value_mut(&key)?;
+    *value = value.wrapping_mul(2);
+    Ok(())
+}
+
+fn sorted(alloc: Global, pairs: &[(u64, u64)]) -> io::Result<RedBlackTreeMap<u64, u64>> {
+    let pairs = pairs.iter().copied().collect(alloc)?;
+    Ok(RedBlackTreeMap::from_sorted(alloc, pairs)?)
+}
+
+// What `?` makes of an error where the result is an `io::Result`.
+#[test]
+fn errors_of_io(rt: HostRuntime) {
+    let mut map = numbers_to(&rt, rt.alloc(), 2);
+    assert!(rt; double(&mut map, 2).is_ok() && map.get(&2).copied() == Some(40));
+    assert!(rt; double(&mut map, 3).is_err_and(|e| e.kind() == io::ErrorKind::NotFound));
+    let turned = sorted(rt.alloc(), &[(2, 0), (1, 0)]);
+    assert!(rt; turned.is_err_and(|e| e.kind() == io::ErrorKind::InvalidInput));
+    assert!(rt; sorted(rt.alloc(), &[(1, 0), (2, 0)]).is_ok_and(|map| map.size() == 2));
 }
 
 #[test]

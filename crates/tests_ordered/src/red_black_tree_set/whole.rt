@@ -1,4 +1,5 @@
 //! Whole sets in one, their parts, and what changed between two.
+use crate::red_black_tree_map::walks::{ends_for_good, steps};
 use rpds_tree::set::red_black_tree_set::{RedBlackTreeSet, SetChange};
 use std::alloc::{AllocError, Global};
 use std::ops::Bound;
@@ -121,4 +122,25 @@ fn differences(rt: HostRuntime) {
     ];
     assert_changes(&rt, &set, &other, &wanted);
     assert_changes(&rt, &set, &set, &[]);
+}
+
+#[test]
+fn walks_of_a_set_end_for_good(rt: HostRuntime) {
+    let set = set_of(&rt, rt.alloc(), &[1, 2, 3]);
+    let less = set_of(&rt, rt.alloc(), &[1]);
+    assert!(rt; ends_for_good(set.iter()));
+    assert!(rt; ends_for_good(set.range_of(2..9)));
+    assert!(rt; ends_for_good(less.diff(&set)));
+}
+
+// A copy goes on from the same place.
+#[test]
+fn copies_of_changes(rt: HostRuntime) {
+    let set = set_of(&rt, rt.alloc(), &[1, 2, 3]);
+    let less = set_of(&rt, rt.alloc(), &[1]);
+    let mut changes = less.diff(&set);
+    assert!(rt; changes.next() == Some(SetChange::Added(&2)));
+    let copy = changes.clone().expect(&rt, "ample memory");
+    assert!(rt; steps(copy) == 1 && changes.next() == Some(SetChange::Added(&3)));
+    assert!(rt; changes.next().is_none());
 }

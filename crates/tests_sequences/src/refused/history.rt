@@ -154,6 +154,7 @@ const WITHOUT_MEMORY: &[NoMemoryRow<'static, HistoryCall>] = &[
 // After the first version those of the numbers 1 to 9,999.
 const LARGE: LargeContainer = LargeContainer {
     variant: 0,
+    count: 10_000,
     step: 1,
     limit: 10_000,
 };

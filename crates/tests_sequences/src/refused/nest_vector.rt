@@ -16,9 +16,10 @@ enum Call {
     DropLastMut,
     Extend,
     Collect,
+    OfArray,
 }
 
-const CALLS: [Call; 9] = [
+const CALLS: [Call; 10] = [
     Call::Clone,
     Call::PushBack,
     Call::PushBackMut,
@@ -28,6 +29,7 @@ const CALLS: [Call; 9] = [
     Call::DropLastMut,
     Call::Extend,
     Call::Collect,
+    Call::OfArray,
 ];
 
 // A vector: how many items are put in, and how many of them are taken out again; and how many requests each call makes, in the
@@ -36,13 +38,13 @@ const CALLS: [Call; 9] = [
 // A clone asks for each open row that has items. A push asks for the item, and for room in an open row that is empty or was made to
 // fit; where it is full, for a new one, and a copy with its pointer, which goes to the level above. A write asks for the item, and for
 // a copy of a row with its pointer on each level below the open row that leads to it; the removal of the last item for a row where the
-// open one is empty. `Extend` and `Collect` put two items in.
-const VECTORS: [(u64, u64, [u64; 9]); 5] = [
-    (64, 0, [1, 6, 5, 2, 1, 1, 0, 8, 3]),
-    (65, 0, [2, 4, 2, 5, 3, 2, 0, 5, 3]),
-    (4160, 0, [2, 10, 8, 5, 3, 2, 0, 12, 3]),
-    (65, 1, [1, 3, 2, 4, 3, 2, 1, 4, 3]),
-    (4161, 1, [2, 4, 2, 7, 5, 3, 1, 5, 3]),
+// open one is empty. `Extend` and `Collect` put two items in, and `OfArray` those of a buffer.
+const VECTORS: [(u64, u64, [u64; 10]); 5] = [
+    (64, 0, [1, 6, 5, 2, 1, 1, 0, 8, 3, 4]),
+    (65, 0, [2, 4, 2, 5, 3, 2, 0, 5, 3, 4]),
+    (4160, 0, [2, 10, 8, 5, 3, 2, 0, 12, 3, 4]),
+    (65, 1, [1, 3, 2, 4, 3, 2, 1, 4, 3, 4]),
+    (4161, 1, [2, 4, 2, 7, 5, 3, 1, 5, 3, 4]),
 ];
 
 // Makes the call. What it hands out takes the vector's place.
@@ -56,6 +58,7 @@ fn perform<A: Allocator + Copy>(
         Call::Set => vector.set(0, 7)?,
         Call::DropLast => vector.drop_last()?,
         Call::Collect => Some(NestVector::from_iter(*vector.allocator(), [7, 7])?),
+        Call::OfArray => Some(NestVector::from_array(*vector.allocator(), [7, 7])?),
         Call::PushBackMut => {
             vector.push_back_mut(7)?;
             return Ok(true);
@@ -127,7 +130,7 @@ fn check_calls<A: Allocator + Copy>(
     rt: &impl Abort,
     faults: &FailingAllocator,
     older: &NestVector<u64, A>,
-    requests: &[u64; 9],
+    requests: &[u64; 10],
 ) {
     let len = older.len() as u64;
     for (call, wanted) in CALLS.iter().zip(requests.iter()) {
@@ -142,7 +145,7 @@ fn check<A: Allocator + Copy>(
     rt: &impl Abort,
     faults: &FailingAllocator,
     alloc: A,
-    vector: &(u64, u64, [u64; 9]),
+    vector: &(u64, u64, [u64; 10]),
 ) {
     let (put, dropped, requests) = vector;
     let older = vector_of(rt, alloc, *put, *dropped);

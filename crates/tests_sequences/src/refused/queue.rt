@@ -1,24 +1,59 @@
 use crate::Tests;
 use crate::refused::list::{CELL, COLLECTED, EXTENDED, ITEM, OF_ARRAY};
+use crate::refused::queue::QueueChanged::{
+    Clear, DequeueMut, DequeueMutCounted, EnqueueMut, Extend,
+};
+use crate::refused::queue::QueueMade::{
+    Cloned, Dequeue, DequeueCounted, Enqueue, FromArray, FromIter, Iter, IterClone, Replay, Share,
+    SplitFirst,
+};
 use rpds_core::steps::Steps;
 use rpds_faults::{FailingAllocator, FailingItem, Faults};
 use rpds_list::queue::{Queue, QueueOp};
-use rpds_refusals::answer::{always_some, always_true, has_number, is_below, no_such_call};
-use rpds_refusals::call::Call::{Counted, InPlace, InPlaceCounted, Plain};
-use rpds_refusals::call::Change::{
-    Append, Clear, Cloned, Collect, Extend, Put, Remove, Replay, Share, Take, Walk, Write,
-};
-use rpds_refusals::call::{Call, Change};
+use rpds_refusals::answer::{always_some, always_true, has_number, is_below, put_if_some};
+use rpds_refusals::call::Call;
+use rpds_refusals::call::Call::{Changed, Made};
 use rpds_refusals::check::check_container;
 use rpds_refusals::container::Container;
 use rpds_refusals::item::three;
 use rpds_refusals::looks::Looks;
 use rpds_refusals::plan::Sharing::{Alike, Alone, Shared};
 use rpds_refusals::plan::{LargeContainer, MemoryRow, NOTHING, NoMemoryRow, Plan};
+use rpds_refusals::subject::Subject;
 use rpds_refusals::{memory, no_memory, receiver};
 use std::alloc::AllocError;
 
 type FailingQueue<'t> = Queue<FailingItem<'t>, &'t FailingAllocator>;
+
+type QueueCall = Call<QueueMade, QueueChanged>;
+
+// A call that hands out a queue, or a walk over this one, which is dropped.
+#[derive(Clone, Copy, Debug)]
+enum QueueMade {
+    Enqueue,
+    Dequeue,
+    DequeueCounted,
+    SplitFirst,
+    FromIter,
+    FromArray,
+    Replay,
+    Iter,
+    // A copy of a walk.
+    IterClone,
+    Share,
+    // By the trait `Clone`.
+    Cloned,
+}
+
+// A call that changes the queue.
+#[derive(Clone, Copy, Debug)]
+enum QueueChanged {
+    EnqueueMut,
+    DequeueMut,
+    DequeueMutCounted,
+    Extend,
+    Clear,
+}
 
 // Two of the four items are dequeued, the second by a turn, and a dequeue finds none.
 fn replayed<'t>(faults: &'t Faults) -> Result<FailingQueue<'t>, AllocError> {
@@ -54,73 +89,55 @@ fn of_array<'t>(faults: &'t Faults) -> Result<FailingQueue<'t>, AllocError> {
     Queue::from_array(&faults.alloc, items)
 }
 
-// `Write` makes a queue of an array, and `Append` copies a walk.
-fn plain<'t>(
+fn made<'t>(
     queue: &FailingQueue<'t>,
-    change: Change,
+    call: QueueMade,
     number: u64,
     faults: &'t Faults,
 ) -> Result<Option<FailingQueue<'t>>, AllocError> {
-    match change {
-        Put => { always_some(queue.enqueue(FailingItem::new(number, &faults.counts))) }
-        Take => queue.dequeue(),
-        Remove => rest(queue),
-        Collect => always_some(Queue::from_iter(&faults.alloc, three(&faults.counts))),
-        Write => always_some(of_array(faults)),
+    match call {
+        Enqueue => always_some(queue.enqueue(FailingItem::new(number, &faults.counts))),
+        Dequeue => queue.dequeue(),
+        DequeueCounted => queue.dequeue_counted(&mut Steps::new()),
+        SplitFirst => rest(queue),
+        FromIter => always_some(Queue::from_iter(&faults.alloc, three(&faults.counts))),
+        FromArray => always_some(of_array(faults)),
         Replay => always_some(replayed(faults)),
-        Walk => {
+        Iter => {
             let _walk = queue.iter()?;
             Ok(None)
         }
-        Append => {
+        IterClone => {
             let walk = queue.iter()?;
             let _copy = walk.clone()?;
             Ok(None)
         }
         Share => always_some(queue.clone()),
         Cloned => always_some(Clone::clone(queue)),
-        _ => no_such_call(),
-    }
-}
-
-fn counted<'t>(
-    queue: &FailingQueue<'t>,
-    change: Change,
-) -> Result<Option<FailingQueue<'t>>, AllocError> {
-    match change {
-        Take => queue.dequeue_counted(&mut Steps::new()),
-        _ => no_such_call(),
     }
 }
 
 fn changed<'t>(
     queue: &mut FailingQueue<'t>,
-    change: Change,
+    call: QueueChanged,
     number: u64,
     faults: &'t Faults,
 ) -> Result<bool, AllocError> {
-    match change {
-        Put => { always_true(queue.enqueue_mut(FailingItem::new(number, &faults.counts))) }
-        Take => queue.dequeue_mut(),
+    match call {
+        EnqueueMut => always_true(queue.enqueue_mut(FailingItem::new(number, &faults.counts))),
+        DequeueMut => queue.dequeue_mut(),
+        DequeueMutCounted => queue.dequeue_mut_counted(&mut Steps::new()),
         Extend => always_true(queue.extend(three(&faults.counts))),
         Clear => {
             queue.clear();
             Ok(queue.is_empty())
         }
-        _ => no_such_call(),
     }
 }
 
-fn changed_counted<'t>(queue: &mut FailingQueue<'t>, change: Change) -> Result<bool, AllocError> {
-    match change {
-        Take => queue.dequeue_mut_counted(&mut Steps::new()),
-        _ => no_such_call(),
-    }
-}
-
-impl<'t> Container<'t, Tests> for FailingQueue<'t> {
+impl<'t> Subject<'t, Tests, QueueCall> for FailingQueue<'t> {
     // At 0 of no items, at 1 of three that don't wait.
-    fn empty(variant: u8, faults: &'t Faults) -> Result<Self, AllocError> {
+    fn start(variant: u8, faults: &'t Faults) -> Result<Self, AllocError> {
         if variant == 0 {
             Ok(Queue::new(&faults.alloc))
         } else {
@@ -128,14 +145,35 @@ impl<'t> Container<'t, Tests> for FailingQueue<'t> {
         }
     }
 
-    fn looks_as(&self, _twin: &Self, _faults: &'t Faults) -> bool {
-        true
+    fn share(&mut self, _faults: &'t Faults) -> Result<Option<Self>, AllocError> {
+        always_some(self.clone())
     }
 
-    fn held(&self) -> usize {
-        self.len()
+    fn is_as(&self, twin: &Self, _faults: &'t Faults) -> bool {
+        *self == *twin
     }
 
+    fn held(&self) -> Option<u64> {
+        Some(self.len() as u64)
+    }
+
+    fn perform(
+        &mut self,
+        call: QueueCall,
+        number: u64,
+        faults: &'t Faults,
+    ) -> Result<bool, AllocError> {
+        match call {
+            Made(call) => {
+                let made = made(self, call, number, faults);
+                put_if_some(self, made)
+            }
+            Changed(call) => changed(self, call, number, faults),
+        }
+    }
+}
+
+impl<'t> Container<'t, Tests, QueueCall> for FailingQueue<'t> {
     fn looks(&self, other: &Self, empty: &Self, looks: &mut Looks<'_, 't>) {
         looks.see("len", self.len() == 3);
         looks.see("is_empty", !self.is_empty() && empty.is_empty());
@@ -145,32 +183,11 @@ impl<'t> Container<'t, Tests> for FailingQueue<'t> {
         );
         looks.see("compared", is_below(self, other));
     }
-
-    fn made(
-        &self,
-        call: Call,
-        number: u64,
-        faults: &'t Faults,
-    ) -> Result<Option<Self>, AllocError> {
-        match call {
-            Plain(change) => plain(self, change, number, faults),
-            Counted(change) => counted(self, change),
-            _ => no_such_call(),
-        }
-    }
-
-    fn changed(&mut self, call: Call, number: u64, faults: &'t Faults) -> Result<bool, AllocError> {
-        match call {
-            InPlace(change) => changed(self, change, number, faults),
-            InPlaceCounted(change) => changed_counted(self, change),
-            _ => no_such_call(),
-        }
-    }
 }
 
 // With no items that wait, one and three, behind none; with none and two, behind three.
-const PLAN: Plan<'static, Call> = Plan {
-    put: InPlace(Put),
+const PLAN: Plan<'static, QueueCall> = Plan {
+    put: Changed(EnqueueMut),
     receivers: &[
         receiver!(&[]),
         receiver!(&[0]),
@@ -186,81 +203,87 @@ const PLAN: Plan<'static, Call> = Plan {
     limits: &[(TURNED, ROWS), (WAITING, TURN)],
 };
 
-const CALLS: &[Call] = &[
-    Plain(Put),
-    Plain(Take),
-    Plain(Remove),
-    Plain(Collect),
-    Plain(Replay),
-    Plain(Walk),
-    Plain(Append),
-    Plain(Write),
-    Counted(Take),
-    InPlace(Put),
-    InPlace(Take),
-    InPlace(Extend),
-    InPlaceCounted(Take),
+const CALLS: &[QueueCall] = &[
+    Made(Enqueue),
+    Made(Dequeue),
+    Made(SplitFirst),
+    Made(FromIter),
+    Made(Replay),
+    Made(Iter),
+    Made(IterClone),
+    Made(FromArray),
+    Made(DequeueCounted),
+    Changed(EnqueueMut),
+    Changed(DequeueMut),
+    Changed(Extend),
+    Changed(DequeueMutCounted),
 ];
 
-const NEVER_REFUSED: &[Call] = &[Plain(Share), Plain(Cloned), InPlace(Clear)];
+const NEVER_REFUSED: &[QueueCall] = &[Made(Share), Made(Cloned), Changed(Clear)];
 
 // There is nothing to do, and no memory is needed.
-const WITHOUT_MEMORY: &[NoMemoryRow<'static, Call>] = &[
+const WITHOUT_MEMORY: &[NoMemoryRow<'static, QueueCall>] = &[
     no_memory!(receiver!(variant: 1, &[]), calls: WALKS, at: 7, answer: false),
     no_memory!(receiver!(&[]), calls: WALKS, at: 7, answer: false),
-    no_memory!(receiver!(&[]), calls: &[Plain(Take), Plain(Remove), InPlace(Take)],
+    no_memory!(receiver!(&[]), calls: &[Made(Dequeue), Made(SplitFirst), Changed(DequeueMut)],
         at: 7, answer: false),
 ];
 
-const WALKS: &[Call] = &[Plain(Walk), Plain(Append)];
+const WALKS: &[QueueCall] = &[Made(Iter), Made(IterClone)];
 
 // They wait behind three.
 const TURNED: LargeContainer = LargeContainer {
     variant: 1,
+    count: 10_000,
     step: 1,
     limit: 10_000,
 };
 
 // As much as those of a list. A walk has a buffer of pointers to the items that wait.
-const ROWS: &[MemoryRow<'static, Call>] = &[
-    memory!(Alike, calls: &[Plain(Put)], at: &[7], requests: 2, bytes: CELL + ITEM),
-    memory!(Shared, calls: &[InPlace(Put)], at: &[7], requests: 2, bytes: CELL + ITEM),
-    memory!(Alike, calls: &[Plain(Take), Plain(Remove), Counted(Take)], at: &[7], limit: NOTHING),
-    memory!(Shared, calls: &[InPlace(Take), InPlaceCounted(Take)], at: &[7], limit: NOTHING),
-    memory!(Shared, calls: &[InPlace(Extend)], at: &[7], limit: EXTENDED),
-    memory!(Alike, calls: &[Plain(Share), Plain(Cloned)], at: &[7], limit: NOTHING),
-    memory!(Alike, calls: &[Plain(Collect)], at: &[7], limit: COLLECTED),
-    memory!(Alike, calls: &[Plain(Write)], at: &[7], limit: OF_ARRAY),
-    memory!(Alike, calls: &[Plain(Walk)], at: &[7], answer: false, requests: 1, bytes: 10_000 * 8),
-    memory!(Alike, calls: &[Plain(Append)], at: &[7],
+const ROWS: &[MemoryRow<'static, QueueCall>] = &[
+    memory!(Alike, calls: &[Made(Enqueue)], at: &[7], requests: 2, bytes: CELL + ITEM),
+    memory!(Shared, calls: &[Changed(EnqueueMut)], at: &[7], requests: 2, bytes: CELL + ITEM),
+    memory!(Alike, calls: &[Made(Dequeue), Made(SplitFirst), Made(DequeueCounted)], at: &[7],
+        limit: NOTHING),
+    memory!(Shared, calls: &[Changed(DequeueMut), Changed(DequeueMutCounted)], at: &[7],
+        limit: NOTHING),
+    memory!(Shared, calls: &[Changed(Extend)], at: &[7], limit: EXTENDED),
+    memory!(Alike, calls: &[Made(Share), Made(Cloned)], at: &[7], limit: NOTHING),
+    memory!(Alike, calls: &[Made(FromIter)], at: &[7], limit: COLLECTED),
+    memory!(Alike, calls: &[Made(FromArray)], at: &[7], limit: OF_ARRAY),
+    memory!(Alike, calls: &[Made(Iter)], at: &[7], answer: false, requests: 1, bytes: 10_000 * 8),
+    memory!(Alike, calls: &[Made(IterClone)], at: &[7],
         answer: false, requests: 2, bytes: 2 * 10_000 * 8),
     // A list of seven changes, a cell and an item for each of four, and a cell for each of two that wait at a turn.
-    memory!(Alike, calls: &[Plain(Replay)], at: &[7],
+    memory!(Alike, calls: &[Made(Replay)], at: &[7],
         requests: 11, bytes: 7 * 24 + 6 * CELL + 4 * ITEM),
 ];
 
 // All wait.
 const WAITING: LargeContainer = LargeContainer {
     variant: 0,
+    count: 10_000,
     step: 1,
     limit: 10_000,
 };
 
 // A cell for each item that waits.
-const TURN: &[MemoryRow<'static, Call>] = &[
-    memory!(Alike, calls: &[Plain(Take), Plain(Remove), Counted(Take)], at: &[7],
+const TURN: &[MemoryRow<'static, QueueCall>] = &[
+    memory!(Alike, calls: &[Made(Dequeue), Made(SplitFirst), Made(DequeueCounted)], at: &[7],
         requests: 10_000, bytes: 10_000 * CELL),
-    memory!(Shared, calls: &[InPlace(Take)], at: &[7], requests: 10_000, bytes: 10_000 * CELL),
+    memory!(Shared, calls: &[Changed(DequeueMut)], at: &[7],
+        requests: 10_000, bytes: 10_000 * CELL),
     // In their own cells: pointers to half of those that stay.
-    memory!(Alone, calls: &[InPlace(Take)], at: &[7], requests: 1, bytes: 5_000 * 8),
+    memory!(Alone, calls: &[Changed(DequeueMut)], at: &[7], requests: 1, bytes: 5_000 * 8),
 ];
 
 #[test]
 fn calls(rt: HostRuntime) {
     let faults = Faults::new(rt.alloc());
-    check_container::<Tests, FailingQueue>(
+    check_container::<Tests, QueueCall, FailingQueue>(
         &faults,
         &PLAN,
+        Changed(Clear),
         &receiver!(variant: 1, &[]),
         &receiver!(&[1, 5]),
     )

@@ -11,14 +11,16 @@ use rpds_refusals::item::{five, three};
 use rpds_refusals::looks::Looks;
 use rpds_refusals::plan::Sharing::{Alike, Alone, Shared};
 use rpds_refusals::plan::{LargeContainer, Limit, MemoryRow, NOTHING, NoMemoryRow, Plan};
+use rpds_refusals::refused::check_some_refused;
 use rpds_refusals::subject::Subject;
 use rpds_refusals::{memory, no_memory, receiver, receivers};
 use rpds_sequence::sequence::Sequence;
-use std::alloc::AllocError;
+use std::alloc::{AllocError, Global};
+use std::process::Abort;
 
 type FailingSequence<'t> = Sequence<FailingItem<'t>, &'t FailingAllocator>;
 
-/// A call of a sequence.
+// A call of a sequence.
 #[derive(Clone, Copy, Debug)]
 enum SequenceCall {
     PushBackMut,
@@ -66,6 +68,7 @@ enum SequenceCall {
     Map,
     FromIter,
     FromVec,
+    FromArray,
     Clear,
     Share,
     ShareCounted,
@@ -85,6 +88,10 @@ fn popped<'t>(
 
 fn three_of<'t>(faults: &'t Faults) -> Result<FailingSequence<'t>, AllocError> {
     Sequence::from_iter(&faults.alloc, three(&faults.counts))
+}
+
+fn three_of_an_array<'t>(faults: &'t Faults) -> Result<FailingSequence<'t>, AllocError> {
+    Sequence::from_array(&faults.alloc, three(&faults.counts))
 }
 
 fn three_of_a_list<'t>(faults: &'t Faults) -> Result<FailingSequence<'t>, AllocError> {
@@ -222,6 +229,7 @@ fn change_whole<'t>(
         SequenceCall::Map => sequence.map(|item| item.clone()),
         SequenceCall::FromIter => three_of(faults),
         SequenceCall::FromVec => three_of_a_list(faults),
+        SequenceCall::FromArray => three_of_an_array(faults),
         SequenceCall::ShareCounted => sequence.clone_counted(steps),
         SequenceCall::Cloned => Clone::clone(sequence),
         _ => sequence.clone(),
@@ -309,7 +317,7 @@ const PLAN: Plan<'static, SequenceCall> = Plan {
     put: SequenceCall::PushBackMut,
     receivers: receivers![&[], &[0], &[0, 1, 2, 3, 4]],
     numbers: &[0, 2, 4, 5],
-    calls: CALLS,
+    calls: &[],
     never_refused: &[
         SequenceCall::Clear,
         SequenceCall::Share,
@@ -321,6 +329,7 @@ const PLAN: Plan<'static, SequenceCall> = Plan {
     limits: &[(LARGE, ROWS)],
 };
 
+// The calls that ask for memory or for a clone, which have a test of their own.
 const CALLS: &[SequenceCall] = &[
     SequenceCall::PushBackMut,
     SequenceCall::PushBackMutCounted,
@@ -367,6 +376,7 @@ const CALLS: &[SequenceCall] = &[
     SequenceCall::Map,
     SequenceCall::FromIter,
     SequenceCall::FromVec,
+    SequenceCall::FromArray,
 ];
 
 // There is no such item, and no memory is needed.
@@ -396,6 +406,7 @@ const WITHOUT_MEMORY: &[NoMemoryRow<'static, SequenceCall>] = &[
 
 const LARGE: LargeContainer = LargeContainer {
     variant: 0,
+    count: 10_000,
     step: 1,
     limit: 10_000,
 };
@@ -499,7 +510,7 @@ const ROWS: &[MemoryRow<'static, SequenceCall>] = &[
         at: &[7], limit: NOTHING
     ),
     memory!(Alike, calls: &[SequenceCall::FromIter], at: &[7], limit: THREE),
-    memory!(Alike, calls: &[SequenceCall::FromVec], at: &[7], limit: THREE),
+    memory!(Alike, calls: &[SequenceCall::FromVec, SequenceCall::FromArray], at: &[7], limit: THREE),
     // A node for each, and a list of the items.
     memory!(Alike, calls: &[SequenceCall::Reverse], at: &[7],
         requests: 10_001, bytes: 10_000 * (16 + NODE)),
@@ -581,10 +592,25 @@ fn looks<'t>(
     );
 }
 
+// Makes the calls with each request and each clone refused in turn.
+fn assert_refused(rt: &impl Abort, alloc: Global, calls: &'static [SequenceCall]) {
+    let faults = Faults::new(alloc);
+    check_some_refused::<Tests, SequenceCall, FailingSequence>(&faults, &PLAN, calls).expect(
+        rt,
+        "each call",
+    );
+}
+
 #[test]
 fn calls(rt: HostRuntime) {
+    assert_refused(&rt, rt.alloc(), CALLS);
+}
+
+// What asks for no memory, and what is asked for among 10,000 items.
+#[test]
+fn asked(rt: HostRuntime) {
     let faults = Faults::new(rt.alloc());
-    check_calls::<Tests, _, FailingSequence>(&faults, &PLAN).expect(&rt, "each call");
+    check_calls::<Tests, _, FailingSequence>(&faults, &PLAN).expect(&rt, "each check");
 }
 
 #[test]

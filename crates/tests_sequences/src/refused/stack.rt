@@ -1,23 +1,47 @@
 use crate::Tests;
 use crate::refused::list::{CELL, COLLECTED, EXTENDED, ITEM, OF_ARRAY};
+use crate::refused::stack::StackChanged::{Clear, Extend, PopMut, PushMut};
+use crate::refused::stack::StackMade::{Cloned, FromArray, FromIter, Pop, Push, Share, SplitFirst};
 use rpds_faults::{FailingAllocator, FailingItem, Faults};
 use rpds_list::stack::Stack;
-use rpds_refusals::answer::{always_some, always_true, has_number, is_below, no_such_call};
-use rpds_refusals::call::Call::{InPlace, Plain};
-use rpds_refusals::call::Change::{
-    Clear, Cloned, Collect, Extend, Put, Remove, Share, Take, Write,
-};
-use rpds_refusals::call::{Call, Change};
+use rpds_refusals::answer::{always_some, always_true, has_number, is_below, put_if_some};
+use rpds_refusals::call::Call;
+use rpds_refusals::call::Call::{Changed, Made};
 use rpds_refusals::check::check_container;
 use rpds_refusals::container::Container;
 use rpds_refusals::item::three;
 use rpds_refusals::looks::Looks;
 use rpds_refusals::plan::Sharing::{Alike, Shared};
 use rpds_refusals::plan::{LargeContainer, MemoryRow, NOTHING, NoMemoryRow, Plan};
+use rpds_refusals::subject::Subject;
 use rpds_refusals::{memory, no_memory, receiver, receivers};
 use std::alloc::AllocError;
 
 type FailingStack<'t> = Stack<FailingItem<'t>, &'t FailingAllocator>;
+
+type StackCall = Call<StackMade, StackChanged>;
+
+// A call that hands out a stack.
+#[derive(Clone, Copy, Debug)]
+enum StackMade {
+    Push,
+    Pop,
+    SplitFirst,
+    FromIter,
+    FromArray,
+    Share,
+    // By the trait `Clone`.
+    Cloned,
+}
+
+// A call that changes the stack.
+#[derive(Clone, Copy, Debug)]
+enum StackChanged {
+    PushMut,
+    PopMut,
+    Extend,
+    Clear,
+}
 
 // The item on top goes, by a call that hands it out too.
 fn rest<'t>(stack: &FailingStack<'t>) -> Result<Option<FailingStack<'t>>, AllocError> {
@@ -38,40 +62,37 @@ fn of_array<'t>(faults: &'t Faults) -> Result<FailingStack<'t>, AllocError> {
     Stack::from_array(&faults.alloc, items)
 }
 
-// `Write` makes a stack of an array.
-fn plain<'t>(
+fn made<'t>(
     stack: &FailingStack<'t>,
-    change: Change,
+    call: StackMade,
     number: u64,
     faults: &'t Faults,
 ) -> Result<Option<FailingStack<'t>>, AllocError> {
-    match change {
-        Put => always_some(stack.push(FailingItem::new(number, &faults.counts))),
-        Take => stack.pop(),
-        Remove => rest(stack),
-        Collect => always_some(Stack::from_iter(&faults.alloc, three(&faults.counts))),
-        Write => always_some(of_array(faults)),
+    match call {
+        Push => always_some(stack.push(FailingItem::new(number, &faults.counts))),
+        Pop => stack.pop(),
+        SplitFirst => rest(stack),
+        FromIter => always_some(Stack::from_iter(&faults.alloc, three(&faults.counts))),
+        FromArray => always_some(of_array(faults)),
         Share => always_some(stack.clone()),
         Cloned => always_some(Clone::clone(stack)),
-        _ => no_such_call(),
     }
 }
 
 fn changed<'t>(
     stack: &mut FailingStack<'t>,
-    change: Change,
+    call: StackChanged,
     number: u64,
     faults: &'t Faults,
 ) -> Result<bool, AllocError> {
-    match change {
-        Put => { always_true(stack.push_mut(FailingItem::new(number, &faults.counts))) }
-        Take => stack.pop_mut(),
+    match call {
+        PushMut => always_true(stack.push_mut(FailingItem::new(number, &faults.counts))),
+        PopMut => stack.pop_mut(),
         Extend => always_true(stack.extend(three(&faults.counts))),
         Clear => {
             stack.clear();
             Ok(stack.is_empty())
         }
-        _ => no_such_call(),
     }
 }
 
@@ -96,19 +117,40 @@ fn walks<'t>(stack: &FailingStack<'t>, looks: &mut Looks<'_, 't>) {
     looks.see("size_hint", stack.iter().size_hint() == (3, Some(3)));
 }
 
-impl<'t> Container<'t, Tests> for FailingStack<'t> {
-    fn empty(_variant: u8, faults: &'t Faults) -> Result<Self, AllocError> {
+impl<'t> Subject<'t, Tests, StackCall> for FailingStack<'t> {
+    fn start(_variant: u8, faults: &'t Faults) -> Result<Self, AllocError> {
         Ok(Stack::new(&faults.alloc))
     }
 
-    fn looks_as(&self, _twin: &Self, _faults: &'t Faults) -> bool {
-        true
+    fn share(&mut self, _faults: &'t Faults) -> Result<Option<Self>, AllocError> {
+        always_some(self.clone())
     }
 
-    fn held(&self) -> usize {
-        self.size()
+    fn is_as(&self, twin: &Self, _faults: &'t Faults) -> bool {
+        *self == *twin
     }
 
+    fn held(&self) -> Option<u64> {
+        Some(self.size() as u64)
+    }
+
+    fn perform(
+        &mut self,
+        call: StackCall,
+        number: u64,
+        faults: &'t Faults,
+    ) -> Result<bool, AllocError> {
+        match call {
+            Made(call) => {
+                let made = made(self, call, number, faults);
+                put_if_some(self, made)
+            }
+            Changed(call) => changed(self, call, number, faults),
+        }
+    }
+}
+
+impl<'t> Container<'t, Tests, StackCall> for FailingStack<'t> {
     fn looks(&self, other: &Self, empty: &Self, looks: &mut Looks<'_, 't>) {
         looks.see("size", self.size() == 3 && self.len() == 3);
         looks.see("is_empty", !self.is_empty() && empty.is_empty());
@@ -120,30 +162,11 @@ impl<'t> Container<'t, Tests> for FailingStack<'t> {
         looks.see("compared", is_below(self, other));
         walks(self, looks);
     }
-
-    fn made(
-        &self,
-        call: Call,
-        number: u64,
-        faults: &'t Faults,
-    ) -> Result<Option<Self>, AllocError> {
-        match call {
-            Plain(change) => plain(self, change, number, faults),
-            _ => no_such_call(),
-        }
-    }
-
-    fn changed(&mut self, call: Call, number: u64, faults: &'t Faults) -> Result<bool, AllocError> {
-        match call {
-            InPlace(change) => changed(self, change, number, faults),
-            _ => no_such_call(),
-        }
-    }
 }
 
 // Of no items, one and four.
-const PLAN: Plan<'static, Call> = Plan {
-    put: InPlace(Put),
+const PLAN: Plan<'static, StackCall> = Plan {
+    put: Changed(PushMut),
     receivers: receivers![&[], &[0], &[0, 1, 2, 3]],
     numbers: &[9],
     calls: CALLS,
@@ -153,54 +176,57 @@ const PLAN: Plan<'static, Call> = Plan {
     limits: &[(LARGE, ROWS)],
 };
 
-const CALLS: &[Call] = &[
-    Plain(Put),
-    Plain(Collect),
-    Plain(Write),
-    InPlace(Put),
-    InPlace(Extend),
+const CALLS: &[StackCall] = &[
+    Made(Push),
+    Made(FromIter),
+    Made(FromArray),
+    Changed(PushMut),
+    Changed(Extend),
 ];
 
-const NEVER_REFUSED: &[Call] = &[
-    Plain(Take),
-    Plain(Remove),
-    Plain(Share),
-    Plain(Cloned),
-    InPlace(Take),
-    InPlace(Clear),
+const NEVER_REFUSED: &[StackCall] = &[
+    Made(Pop),
+    Made(SplitFirst),
+    Made(Share),
+    Made(Cloned),
+    Changed(PopMut),
+    Changed(Clear),
 ];
 
 // There is nothing to do, and no memory is needed.
-const WITHOUT_MEMORY: &[NoMemoryRow<'static, Call>] = &[
-    no_memory!(receiver!(&[]), calls: &[Plain(Take), Plain(Remove), InPlace(Take)],
+const WITHOUT_MEMORY: &[NoMemoryRow<'static, StackCall>] = &[
+    no_memory!(receiver!(&[]), calls: &[Made(Pop), Made(SplitFirst), Changed(PopMut)],
         at: 7, answer: false),
 ];
 
 const LARGE: LargeContainer = LargeContainer {
     variant: 0,
+    count: 10_000,
     step: 1,
     limit: 10_000,
 };
 
 // As much as those of a list.
-const ROWS: &[MemoryRow<'static, Call>] = &[
-    memory!(Alike, calls: &[Plain(Put)], at: &[7], requests: 2, bytes: CELL + ITEM),
-    memory!(Shared, calls: &[InPlace(Put)], at: &[7], requests: 2, bytes: CELL + ITEM),
-    memory!(Alike, calls: &[Plain(Take), Plain(Remove)], at: &[7], limit: NOTHING),
-    memory!(Shared, calls: &[InPlace(Take)], at: &[7], limit: NOTHING),
-    memory!(Shared, calls: &[InPlace(Extend)], at: &[7], limit: EXTENDED),
-    memory!(Alike, calls: &[Plain(Share), Plain(Cloned)], at: &[7], limit: NOTHING),
-    memory!(Alike, calls: &[Plain(Collect)], at: &[7], limit: COLLECTED),
-    memory!(Alike, calls: &[Plain(Write)], at: &[7], limit: OF_ARRAY),
+const ROWS: &[MemoryRow<'static, StackCall>] = &[
+    memory!(Alike, calls: &[Made(Push)], at: &[7], requests: 2, bytes: CELL + ITEM),
+    memory!(Shared, calls: &[Changed(PushMut)], at: &[7], requests: 2, bytes: CELL + ITEM),
+    memory!(Alike, calls: &[Made(Pop), Made(SplitFirst)], at: &[7], limit: NOTHING),
+    memory!(Shared, calls: &[Changed(PopMut)], at: &[7], limit: NOTHING),
+    memory!(Shared, calls: &[Changed(Extend)], at: &[7], limit: EXTENDED),
+    memory!(Alike, calls: &[Made(Share), Made(Cloned)], at: &[7], limit: NOTHING),
+    memory!(Alike, calls: &[Made(FromIter)], at: &[7], limit: COLLECTED),
+    memory!(Alike, calls: &[Made(FromArray)], at: &[7], limit: OF_ARRAY),
 ];
 
 #[test]
 fn calls(rt: HostRuntime) {
     let faults = Faults::new(rt.alloc());
-    check_container::<Tests, FailingStack>(
+    check_container::<Tests, StackCall, FailingStack>(
         &faults,
         &PLAN,
+        Changed(Clear),
         &receiver!(&[1, 2, 3]),
         &receiver!(&[1, 5]),
-    ).expect(&rt, "each call");
+    )
+    .expect(&rt, "each call");
 }

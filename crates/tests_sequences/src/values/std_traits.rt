@@ -1,6 +1,7 @@
-//! std's traits: what `collect`, `Extend`, `len`, `or_default` and `try_take` make of sequences.
+//! std's traits: what `collect`, `try_collect`, `Extend`, `len`, `or_default` and `try_take` make of sequences.
 ghost use Rattle.std.specs.Prelude.{◌≡◌, ◌*◌, IfOk, length, map, filter, nat_lt};
 
+use rpds_core::lend::ValueMutError;
 use rpds_list::list::List;
 use rpds_list::queue::Queue;
 use rpds_list::stack::Stack;
@@ -43,6 +44,15 @@ fn collected(rt: HostRuntime) {
 }
 
 #[test]
+fn made_of_an_array(rt: HostRuntime) {
+    let alloc = rt.alloc();
+    let vector = Vector::from_array(alloc, [1, 2, 3]).expect(&rt, "ample memory");
+    assert!(rt; vector.iter().copied().eq([1, 2, 3]));
+    let nested = NestVector::from_array(alloc, [1, 2, 3]).expect(&rt, "ample memory");
+    assert!(rt; nested.iter().copied().eq([1, 2, 3]));
+}
+
+#[test]
 fn collected_from_each_other(rt: HostRuntime) {
     let alloc = rt.alloc();
     let list: List<u64> = [12u64, 3, 40, 5]
@@ -52,6 +62,27 @@ fn collected_from_each_other(rt: HostRuntime) {
     let vector = below_ten(alloc, &list).expect(&rt, "ample memory");
     assert!(rt; vector.iter().copied().eq([3, 5]));
     assert!(rt; count(&vector) == 2);
+}
+
+// The half of an even number.
+fn half(number: &u64) -> Result<u64, ValueMutError> {
+    if *number % 2 == 0 {
+        Ok(*number / 2)
+    } else {
+        Err(ValueMutError::Absent)
+    }
+}
+
+// The items are put in one by one, so a list has the last one first.
+#[test]
+fn collected_up_to_an_error(rt: HostRuntime) {
+    let alloc = rt.alloc();
+    let vector: Result<Vector<u64>, _> = [2, 4].iter().map(half).try_collect(alloc);
+    assert!(rt; vector.is_ok_and(|vector| vector.iter().copied().eq([1, 2])));
+    let list: Result<List<u64>, _> = [2, 4].iter().map(half).try_collect(alloc);
+    assert!(rt; list.is_ok_and(|list| list.iter().copied().eq([2, 1])));
+    let stopped: Result<Vector<u64>, _> = [2, 3, 4].iter().map(half).try_collect(alloc);
+    assert!(rt; stopped == Err(ValueMutError::Absent));
 }
 
 #[test]

@@ -1,8 +1,7 @@
 //! Tables where the next allocation and the next clone are refused: what they refuse, and what they are asked.
-use crate::refused::table::{FailingTable, KINDS, TableCall, command, put};
+use crate::refused::table::{Change, FailingTable, KINDS, TableCommand, command, put};
 use rpds_core::steps::Steps;
 use rpds_faults::{FailingItem, Faults, FlooredBuild, LifeCounts};
-use rpds_refusals::call::Change::{Put, Set, Take};
 use rpds_table::table::Mode::{InPlace, New};
 use rpds_table::table::Refusal::{BadBits, BadDegree, NoVersion, NotAscending, WrongKind};
 use rpds_table::table::{Answer, Command, Kind, Question, Refusal, Reply, Table};
@@ -27,50 +26,80 @@ fn of_all_kinds<'t>(rt: &impl Abort, faults: &'t Faults) -> FailingTable<'t> {
 }
 
 // The commands, the kinds and the versions that they name, and why they are refused.
-const REFUSED: [(TableCall, Kind, usize, Refusal); 21] = [
-    (TableCall::Copy, Kind::List, 16, NoVersion),
-    (TableCall::Change(InPlace, Put), Kind::Stack, 16, NoVersion),
-    (TableCall::Change(New, Take), Kind::Stack, 16, NoVersion),
-    (TableCall::Extend, Kind::Vector, 16, NoVersion),
-    (TableCall::WriteAt, Kind::Vector, 16, NoVersion),
-    (TableCall::WriteKey, Kind::HashTrieMap, 16, NoVersion),
-    (TableCall::Change(InPlace, Put), Kind::Stack, 8, WrongKind),
-    (TableCall::Change(New, Set), Kind::Vector, 9, WrongKind),
-    (TableCall::Change(InPlace, Set), Kind::Vector, 10, WrongKind),
-    (TableCall::Extend, Kind::Vector, 12, WrongKind),
-    (TableCall::WriteAt, Kind::Vector, 13, WrongKind),
-    (TableCall::WriteKey, Kind::HashTrieMap, 15, WrongKind),
-    (TableCall::MakeDegree(64), Kind::List, 0, WrongKind),
-    (TableCall::MakeBits(0), Kind::Vector, 0, BadBits),
-    (TableCall::MakeBits(64), Kind::Vector, 0, BadBits),
-    (TableCall::MakeDegree(3), Kind::HashTrieMap, 0, BadDegree),
-    (TableCall::MakeDegree(1), Kind::HashTrieSet, 0, BadDegree),
+const REFUSED: [(TableCommand, Kind, usize, Refusal); 21] = [
+    (TableCommand::Copy, Kind::List, 16, NoVersion),
     (
-        TableCall::MakeDegree(1),
+        TableCommand::Change(InPlace, Change::Put),
+        Kind::Stack,
+        16,
+        NoVersion,
+    ),
+    (
+        TableCommand::Change(New, Change::Take),
+        Kind::Stack,
+        16,
+        NoVersion,
+    ),
+    (TableCommand::Extend, Kind::Vector, 16, NoVersion),
+    (TableCommand::WriteAt, Kind::Vector, 16, NoVersion),
+    (TableCommand::WriteKey, Kind::HashTrieMap, 16, NoVersion),
+    (
+        TableCommand::Change(InPlace, Change::Put),
+        Kind::Stack,
+        8,
+        WrongKind,
+    ),
+    (
+        TableCommand::Change(New, Change::Set),
+        Kind::Vector,
+        9,
+        WrongKind,
+    ),
+    (
+        TableCommand::Change(InPlace, Change::Set),
+        Kind::Vector,
+        10,
+        WrongKind,
+    ),
+    (TableCommand::Extend, Kind::Vector, 12, WrongKind),
+    (TableCommand::WriteAt, Kind::Vector, 13, WrongKind),
+    (TableCommand::WriteKey, Kind::HashTrieMap, 15, WrongKind),
+    (TableCommand::MakeDegree(64), Kind::List, 0, WrongKind),
+    (TableCommand::MakeBits(0), Kind::Vector, 0, BadBits),
+    (TableCommand::MakeBits(64), Kind::Vector, 0, BadBits),
+    (TableCommand::MakeDegree(3), Kind::HashTrieMap, 0, BadDegree),
+    (TableCommand::MakeDegree(1), Kind::HashTrieSet, 0, BadDegree),
+    (
+        TableCommand::MakeDegree(1),
         Kind::RedBlackTreeSet,
         0,
         WrongKind,
     ),
-    (TableCall::Change(InPlace, Put), Kind::Stack, 14, WrongKind),
     (
-        TableCall::MakeSorted,
+        TableCommand::Change(InPlace, Change::Put),
+        Kind::Stack,
+        14,
+        WrongKind,
+    ),
+    (
+        TableCommand::MakeSorted,
         Kind::RedBlackTreeMap,
         0,
         NotAscending(2),
     ),
     (
-        TableCall::MakeSortedItems,
+        TableCommand::MakeSortedItems,
         Kind::RedBlackTreeSet,
         0,
         NotAscending(1),
     ),
 ];
 
-// The command is refused for this reason. The number is that of a list that falls.
+// The command is refused for this reason. Its number, 1, gives a list that doesn't ascend.
 fn assert_refused<'t>(
     rt: &impl Abort,
     table: &mut FailingTable<'t>,
-    row: (TableCall, Kind, usize, Refusal),
+    row: (TableCommand, Kind, usize, Refusal),
     faults: &'t Faults,
 ) {
     let (call, kind, index, refusal) = row;

@@ -1,132 +1,55 @@
 //! What each command of a table asks for, on a version of each kind that has 10,000 entries.
 use crate::Tests;
-use crate::refused::table::{TableCall, Versions};
+use crate::refused::table::TableCall::{Apply, Own};
+use crate::refused::table::{Change, TableCall, TableCommand, Versions};
 use rpds_faults::Faults;
-use rpds_refusals::call::Change::{Put, Reverse, Set, Take};
-use rpds_refusals::call::Through;
-use rpds_refusals::call::Through::Apply;
-use rpds_refusals::limits::check_limits;
+use rpds_refusals::limits::check_large;
 use rpds_refusals::memory;
 use rpds_refusals::plan::Sharing::{Alike, Alone, Shared};
-use rpds_refusals::plan::{LargeContainer, Limit, MemoryRow, NOTHING, Plan};
+use rpds_refusals::plan::{LargeContainer, Limit, MemoryRow, NOTHING};
 use rpds_table::table::Mode::{InPlace, New};
+use std::alloc::Global;
+use std::process::Abort;
 
-type Row = MemoryRow<'static, Through<TableCall>>;
+type Row = MemoryRow<'static, TableCall>;
 
-const PLAN: Plan<'static, Through<TableCall>> = Plan {
-    put: IN_PLACE_PUT,
-    receivers: &[],
-    numbers: &[],
-    calls: &[],
-    never_refused: &[],
-    empty_without_memory: &[],
-    without_memory: &[],
-    // A version of each kind, in a list of versions that has room for more.
-    limits: &[
-        (
-            LargeContainer {
-                variant: 8,
-                step: 1,
-                limit: 10_000,
-            },
-            LISTS,
-        ),
-        (
-            LargeContainer {
-                variant: 9,
-                step: 1,
-                limit: 10_000,
-            },
-            STACKS,
-        ),
-        (
-            LargeContainer {
-                variant: 10,
-                step: 1,
-                limit: 10_000,
-            },
-            QUEUES,
-        ),
-        (
-            LargeContainer {
-                variant: 11,
-                step: 1,
-                limit: 10_000,
-            },
-            VECTORS,
-        ),
-        (
-            LargeContainer {
-                variant: 12,
-                step: 1,
-                limit: 10_000,
-            },
-            HASH_TRIE_MAPS,
-        ),
-        (
-            LargeContainer {
-                variant: 13,
-                step: 1,
-                limit: 10_000,
-            },
-            HASH_TRIE_SETS,
-        ),
-        (
-            LargeContainer {
-                variant: 14,
-                step: 1,
-                limit: 10_000,
-            },
-            RED_BLACK_TREE_MAPS,
-        ),
-        (
-            LargeContainer {
-                variant: 15,
-                step: 1,
-                limit: 10_000,
-            },
-            RED_BLACK_TREE_SETS,
-        ),
-    ],
-};
+const COPY: &[TableCall] = &[Apply(TableCommand::Copy)];
 
-const COPY: &[Through<TableCall>] = &[Apply(TableCall::Copy)];
+const IN_PLACE_PUT: TableCall = Apply(TableCommand::Change(InPlace, Change::Put));
 
-const IN_PLACE_PUT: Through<TableCall> = Apply(TableCall::Change(InPlace, Put));
+const PUT: &[TableCall] = &[IN_PLACE_PUT];
 
-const PUT: &[Through<TableCall>] = &[IN_PLACE_PUT];
+const TAKE: &[TableCall] = &[Apply(TableCommand::Change(InPlace, Change::Take))];
 
-const TAKE: &[Through<TableCall>] = &[Apply(TableCall::Change(InPlace, Take))];
+const SET: &[TableCall] = &[Apply(TableCommand::Change(InPlace, Change::Set))];
 
-const SET: &[Through<TableCall>] = &[Apply(TableCall::Change(InPlace, Set))];
+const REVERSE: &[TableCall] = &[Apply(TableCommand::Change(InPlace, Change::Reverse))];
 
-const REVERSE: &[Through<TableCall>] = &[Apply(TableCall::Change(InPlace, Reverse))];
+const WRITE_AT: &[TableCall] = &[Apply(TableCommand::WriteAt)];
 
-const WRITE_AT: &[Through<TableCall>] = &[Apply(TableCall::WriteAt)];
+const WRITE_KEY: &[TableCall] = &[Apply(TableCommand::WriteKey)];
 
-const WRITE_KEY: &[Through<TableCall>] = &[Apply(TableCall::WriteKey)];
-
-const EXTEND: &[Through<TableCall>] = &[Apply(TableCall::Extend)];
+const EXTEND: &[TableCall] = &[Apply(TableCommand::Extend)];
 
 // A new version asks for as much as the container's own call.
-const NEW_PUT: &[Through<TableCall>] = &[
-    Apply(TableCall::Own(Put)),
-    Apply(TableCall::Change(New, Put)),
+const NEW_PUT: &[TableCall] = &[
+    Own(Change::Put),
+    Apply(TableCommand::Change(New, Change::Put)),
 ];
 
-const NEW_TAKE: &[Through<TableCall>] = &[
-    Apply(TableCall::Own(Take)),
-    Apply(TableCall::Change(New, Take)),
+const NEW_TAKE: &[TableCall] = &[
+    Own(Change::Take),
+    Apply(TableCommand::Change(New, Change::Take)),
 ];
 
-const NEW_SET: &[Through<TableCall>] = &[
-    Apply(TableCall::Own(Set)),
-    Apply(TableCall::Change(New, Set)),
+const NEW_SET: &[TableCall] = &[
+    Own(Change::Set),
+    Apply(TableCommand::Change(New, Change::Set)),
 ];
 
-const NEW_REVERSE: &[Through<TableCall>] = &[
-    Apply(TableCall::Own(Reverse)),
-    Apply(TableCall::Change(New, Reverse)),
+const NEW_REVERSE: &[TableCall] = &[
+    Own(Change::Reverse),
+    Apply(TableCommand::Change(New, Change::Reverse)),
 ];
 
 // The bytes that come before what is shared: two counts of owners and the allocator. An item has 16 bytes.
@@ -284,7 +207,7 @@ const RED_BLACK_TREE_MAPS: &[Row] = &[
     memory!(Alone, calls: SORTED, at: &[3], requests: 7, bytes: 3 * (32 + NODE + PAIR)),
 ];
 
-const SORTED: &[Through<TableCall>] = &[Apply(TableCall::MakeSorted)];
+const SORTED: &[TableCall] = &[Apply(TableCommand::MakeSorted)];
 
 const RED_BLACK_TREE_SETS: &[Row] = &[
     memory!(Alone, calls: PUT, at: KEYS, requests: 1, bytes: ITEM),
@@ -297,10 +220,59 @@ const RED_BLACK_TREE_SETS: &[Row] = &[
     memory!(Alone, calls: SORTED_ITEMS, at: &[3], requests: 5, bytes: 2 * (16 + NODE + ITEM)),
 ];
 
-const SORTED_ITEMS: &[Through<TableCall>] = &[Apply(TableCall::MakeSortedItems)];
+const SORTED_ITEMS: &[TableCall] = &[Apply(TableCommand::MakeSortedItems)];
+
+// A version of this kind, in a list of versions that has room for more.
+fn assert_counted(rt: &impl Abort, alloc: Global, kind: u8, rows: &[Row]) {
+    let faults = Faults::new(alloc);
+    let large = LargeContainer {
+        variant: 8u8.wrapping_add(kind),
+        count: 10_000,
+        step: 1,
+        limit: 10_000,
+    };
+    check_large::<Tests, TableCall, Versions>(&faults, IN_PLACE_PUT, &large, rows).expect(
+        rt,
+        "requests and bytes",
+    );
+}
 
 #[test]
-fn counted(rt: HostRuntime) {
-    let faults = Faults::new(rt.alloc());
-    check_limits::<Tests, _, Versions>(&faults, &PLAN).expect(&rt, "requests and bytes");
+fn lists(rt: HostRuntime) {
+    assert_counted(&rt, rt.alloc(), 0, LISTS);
+}
+
+#[test]
+fn stacks(rt: HostRuntime) {
+    assert_counted(&rt, rt.alloc(), 1, STACKS);
+}
+
+#[test]
+fn queues(rt: HostRuntime) {
+    assert_counted(&rt, rt.alloc(), 2, QUEUES);
+}
+
+#[test]
+fn vectors(rt: HostRuntime) {
+    assert_counted(&rt, rt.alloc(), 3, VECTORS);
+}
+
+#[test]
+fn hash_trie_maps(rt: HostRuntime) {
+    assert_counted(&rt, rt.alloc(), 4, HASH_TRIE_MAPS);
+}
+
+#[test]
+fn hash_trie_sets(rt: HostRuntime) {
+    assert_counted(&rt, rt.alloc(), 5, HASH_TRIE_SETS);
+}
+
+#[test]
+fn red_black_tree_maps(rt: HostRuntime) {
+    assert_counted(&rt, rt.alloc(), 6, RED_BLACK_TREE_MAPS);
+}
+
+#[test]
+fn red_black_tree_sets(rt: HostRuntime) {
+    assert_counted(&rt, rt.alloc(), 7, RED_BLACK_TREE_SETS);
 }

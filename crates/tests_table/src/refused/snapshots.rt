@@ -1,8 +1,7 @@
 //! Each command of a map with snapshots.
 use crate::Tests;
+use crate::refused::snapshots::SnapshotsCall::{Apply, Run};
 use rpds_faults::{FailingAllocator, FailingItem, Faults};
-use rpds_refusals::call::Through;
-use rpds_refusals::call::Through::{Apply, Run};
 use rpds_refusals::check::check_calls;
 use rpds_refusals::item::pair;
 use rpds_refusals::plan::Sharing::Alone;
@@ -21,22 +20,31 @@ type FailingMap<'t> = RedBlackTreeMap<FailingItem<'t>, FailingItem<'t>, &'t Fail
 
 // A command of a map with snapshots, but for the key, the value and the number in it.
 #[derive(Clone, Copy, Debug)]
-enum SnapshotsCall {
+enum SnapshotsCommand {
     Put,
     TakeOut,
     Take,
     GoBack,
 }
 
-fn command<'t>(call: SnapshotsCall, number: u64, faults: &'t Faults) -> FailingCommand<'t> {
-    match call {
-        SnapshotsCall::Put => {
+// How it is given.
+#[derive(Clone, Copy, Debug)]
+enum SnapshotsCall {
+    // By `apply`.
+    Apply(SnapshotsCommand),
+    // By `run`, and no other with it.
+    Run(SnapshotsCommand),
+}
+
+fn command<'t>(given: SnapshotsCommand, number: u64, faults: &'t Faults) -> FailingCommand<'t> {
+    match given {
+        SnapshotsCommand::Put => {
             let (key, value) = pair(number, &faults.counts);
             SnapCommand::Put(key, value)
         }
-        SnapshotsCall::TakeOut => SnapCommand::TakeOut(FailingItem::new(number, &faults.counts)),
-        SnapshotsCall::Take => SnapCommand::Take,
-        SnapshotsCall::GoBack => SnapCommand::GoBack(number as usize),
+        SnapshotsCommand::TakeOut => SnapCommand::TakeOut(FailingItem::new(number, &faults.counts)),
+        SnapshotsCommand::Take => SnapCommand::Take,
+        SnapshotsCommand::GoBack => SnapCommand::GoBack(number as usize),
     }
 }
 
@@ -70,7 +78,7 @@ fn are_same<'t>(kept: Option<&FailingMap<'t>>, twin: Option<&FailingMap<'t>>) ->
     }
 }
 
-impl<'t> Subject<'t, Tests, Through<SnapshotsCall>> for FailingSnapshots<'t> {
+impl<'t> Subject<'t, Tests, SnapshotsCall> for FailingSnapshots<'t> {
     // How many snapshots were taken before the map is filled.
     fn start(variant: u8, faults: &'t Faults) -> Result<Self, AllocError> {
         let mut snapshots = Snapshots::new(&faults.alloc);
@@ -102,13 +110,13 @@ impl<'t> Subject<'t, Tests, Through<SnapshotsCall>> for FailingSnapshots<'t> {
 
     fn perform(
         &mut self,
-        call: Through<SnapshotsCall>,
+        call: SnapshotsCall,
         number: u64,
         faults: &'t Faults,
     ) -> Result<bool, AllocError> {
         match call {
-            Apply(call) => outcome(self.apply(command(call, number, faults))),
-            Run(call) => run(self, command(call, number, faults), faults),
+            Apply(given) => outcome(self.apply(command(given, number, faults))),
+            Run(given) => run(self, command(given, number, faults), faults),
         }
     }
 }
@@ -117,8 +125,8 @@ const SEVEN: &[u64] = &[0, 1, 2, 3, 4, 5, 6];
 
 // After no snapshot, three and four, after which the list of them grows; then of an empty map. The calls are made at keys
 // that are there, and at one that isn't. So with snapshots.
-const PLAN: Plan<'static, Through<SnapshotsCall>> = Plan {
-    put: Apply(SnapshotsCall::Put),
+const PLAN: Plan<'static, SnapshotsCall> = Plan {
+    put: Apply(SnapshotsCommand::Put),
     receivers: &[
         receiver!(SEVEN),
         receiver!(variant: 3, SEVEN),
@@ -128,20 +136,20 @@ const PLAN: Plan<'static, Through<SnapshotsCall>> = Plan {
     ],
     numbers: &[0, 3, 9],
     calls: CALLS,
-    never_refused: &[Apply(SnapshotsCall::GoBack)],
+    never_refused: &[Apply(SnapshotsCommand::GoBack)],
     empty_without_memory: &[0],
     without_memory: &[],
     limits: &[(LARGE, ROWS)],
 };
 
-const CALLS: &[Through<SnapshotsCall>] = &[
-    Apply(SnapshotsCall::Put),
-    Apply(SnapshotsCall::TakeOut),
-    Apply(SnapshotsCall::Take),
-    Run(SnapshotsCall::Put),
-    Run(SnapshotsCall::TakeOut),
-    Run(SnapshotsCall::Take),
-    Run(SnapshotsCall::GoBack),
+const CALLS: &[SnapshotsCall] = &[
+    Apply(SnapshotsCommand::Put),
+    Apply(SnapshotsCommand::TakeOut),
+    Apply(SnapshotsCommand::Take),
+    Run(SnapshotsCommand::Put),
+    Run(SnapshotsCommand::TakeOut),
+    Run(SnapshotsCommand::Take),
+    Run(SnapshotsCommand::GoBack),
 ];
 
 #[test]
@@ -153,6 +161,7 @@ fn refused(rt: HostRuntime) {
 // The keys rise.
 const LARGE: LargeContainer = LargeContainer {
     variant: 0,
+    count: 10_000,
     step: 1,
     limit: 10_000,
 };
@@ -169,7 +178,7 @@ const PATH: u64 = 27;
 
 // Sharing a map that shares nothing: the pair and its node where one is put in, and a snapshot's place in the list of them, which
 // begins with four. Where a snapshot shares them, a path. A step back takes nothing.
-const ROWS: &[MemoryRow<'static, Through<SnapshotsCall>>] = &[
+const ROWS: &[MemoryRow<'static, SnapshotsCall>] = &[
     memory!(Alone, calls: PUT, at: &[3, 9_999], requests: 1, bytes: PAIR),
     memory!(Alone, calls: PUT, at: &[10_000], requests: 2, bytes: NODE + PAIR),
     memory!(Alone, calls: TAKE_OUT, at: &[0, 5_000], limit: NOTHING),
@@ -179,10 +188,10 @@ const ROWS: &[MemoryRow<'static, Through<SnapshotsCall>>] = &[
     memory!(Alone, calls: PUT, at: &[3, 9_999], requests: PATH + 1, bytes: PATH * NODE + PAIR),
 ];
 
-const PUT: &[Through<SnapshotsCall>] = &[Apply(SnapshotsCall::Put)];
+const PUT: &[SnapshotsCall] = &[Apply(SnapshotsCommand::Put)];
 
-const TAKE_OUT: &[Through<SnapshotsCall>] = &[Apply(SnapshotsCall::TakeOut)];
+const TAKE_OUT: &[SnapshotsCall] = &[Apply(SnapshotsCommand::TakeOut)];
 
-const TAKE: &[Through<SnapshotsCall>] = &[Apply(SnapshotsCall::Take)];
+const TAKE: &[SnapshotsCall] = &[Apply(SnapshotsCommand::Take)];
 
-const GO_BACK: &[Through<SnapshotsCall>] = &[Apply(SnapshotsCall::GoBack)];
+const GO_BACK: &[SnapshotsCall] = &[Apply(SnapshotsCommand::GoBack)];

@@ -3,13 +3,6 @@ use crate::Tests;
 use crate::refused::own::own_call;
 use rpds_core::steps::Steps;
 use rpds_faults::{FailingAllocator, FailingItem, Faults, FlooredBuild, LifeCounts};
-use rpds_refusals::answer::no_such_call;
-use rpds_refusals::call::Change::{
-    Append, Clear, Cloned, Collect, Extend, Insert, Keep, Lend, Put, Remove, Replay, Reverse, Set,
-    Share, Skip, Sorted, Take, Walk, Write,
-};
-use rpds_refusals::call::Through::{Apply, Run};
-use rpds_refusals::call::{Change, Through};
 use rpds_refusals::item::{pair, three};
 use rpds_refusals::plan::{NoMemoryRow, Plan};
 use rpds_refusals::refused::refusals;
@@ -18,7 +11,7 @@ use rpds_refusals::without_memory::check_without_memory;
 use rpds_refusals::{no_memory, receiver};
 use rpds_table::table::Mode::{InPlace, New};
 use rpds_table::table::{Command, Kind, Mode, Op, Refusal, Reply, Table, VersionRef};
-use std::alloc::AllocError;
+use std::alloc::{AllocError, Global};
 use std::process::Abort;
 
 pub(crate) type FailingTable<'t> = Table<
@@ -44,9 +37,21 @@ pub(crate) type FailingRef<'a, 't> = VersionRef<
     &'t FailingAllocator,
 >;
 
+// A change of a version.
+#[derive(Clone, Copy, Debug)]
+pub(crate) enum Change {
+    // Puts the number in.
+    Put,
+    // Takes the number out, or the item that the kind drops.
+    Take,
+    // Puts an item at the place of the number.
+    Set,
+    Reverse,
+}
+
 // A command of a table, but for the version and the items in it.
 #[derive(Clone, Copy, Debug)]
-pub(crate) enum TableCall {
+pub(crate) enum TableCommand {
     Make,
     MakeBits(u8),
     MakeDegree(u8),
@@ -54,11 +59,20 @@ pub(crate) enum TableCall {
     MakeSortedItems,
     Copy,
     Change(Mode, Change),
-    // No command, but the container's own call, whose result is dropped.
-    Own(Change),
     Extend,
     WriteAt,
     WriteKey,
+}
+
+// A call of a table.
+#[derive(Clone, Copy, Debug)]
+pub(crate) enum TableCall {
+    // The command by `apply`.
+    Apply(TableCommand),
+    // The command by `run`, and no other with it.
+    Run(TableCommand),
+    // No command, but the container's own call, whose result is dropped.
+    Own(Change),
 }
 
 // A table whose first version is of the kind.
@@ -98,37 +112,12 @@ fn take<'t>(kind: Kind, number: u64, counts: &'t LifeCounts) -> FailingOp<'t> {
     }
 }
 
-// What stands in for a change that is no op: it answers as if memory was refused.
-fn no_such_op<'t>(_counts: &'t LifeCounts) -> Result<FailingOp<'t>, AllocError> {
-    no_such_call()
-}
-
-fn op<'t>(
-    kind: Kind,
-    change: Change,
-    number: u64,
-    counts: &'t LifeCounts,
-) -> Result<FailingOp<'t>, AllocError> {
+fn op<'t>(kind: Kind, change: Change, number: u64, counts: &'t LifeCounts) -> FailingOp<'t> {
     match change {
-        Put => Ok(put(kind, number, counts)),
-        Take => Ok(take(kind, number, counts)),
-        Set => Ok(Op::Set(number as usize, FailingItem::new(7, counts))),
-        Reverse => Ok(Op::Reverse),
-        Insert
-        | Remove
-        | Keep
-        | Skip
-        | Lend
-        | Write
-        | Share
-        | Cloned
-        | Extend
-        | Append
-        | Collect
-        | Sorted
-        | Replay
-        | Walk
-        | Clear => { no_such_op(counts) }
+        Change::Put => put(kind, number, counts),
+        Change::Take => take(kind, number, counts),
+        Change::Set => Op::Set(number as usize, FailingItem::new(7, counts)),
+        Change::Reverse => Op::Reverse,
     }
 }
 
@@ -160,31 +149,30 @@ fn extend<'t>(index: usize, faults: &'t Faults) -> Result<FailingCommand<'t>, Al
 
 // The command on the version of this index, of the kind, with the number.
 pub(crate) fn command<'t>(
-    call: TableCall,
+    given: TableCommand,
     kind: Kind,
     index: usize,
     number: u64,
     faults: &'t Faults,
 ) -> Result<FailingCommand<'t>, AllocError> {
     let counts = &faults.counts;
-    match call {
-        TableCall::Make => Ok(Command::Make(kind)),
-        TableCall::MakeBits(bits) => Ok(Command::MakeBits(bits)),
-        TableCall::MakeDegree(degree) => Ok(Command::MakeDegree(kind, degree)),
-        TableCall::MakeSorted => make_sorted(number, faults),
-        TableCall::MakeSortedItems => make_sorted_items(number, faults),
-        TableCall::Copy => Ok(Command::Copy(index)),
-        TableCall::Change(mode, change) => {
-            Ok(Command::Change(index, mode, op(kind, change, number, counts)?))
+    match given {
+        TableCommand::Make => Ok(Command::Make(kind)),
+        TableCommand::MakeBits(bits) => Ok(Command::MakeBits(bits)),
+        TableCommand::MakeDegree(degree) => Ok(Command::MakeDegree(kind, degree)),
+        TableCommand::MakeSorted => make_sorted(number, faults),
+        TableCommand::MakeSortedItems => make_sorted_items(number, faults),
+        TableCommand::Copy => Ok(Command::Copy(index)),
+        TableCommand::Change(mode, change) => {
+            Ok(Command::Change(index, mode, op(kind, change, number, counts)))
         }
-        TableCall::Own(_) => no_such_call(),
-        TableCall::Extend => extend(index, faults),
-        TableCall::WriteAt => Ok(Command::WriteAt(
+        TableCommand::Extend => extend(index, faults),
+        TableCommand::WriteAt => Ok(Command::WriteAt(
             index,
             number as usize,
             FailingItem::new(7, counts),
         )),
-        TableCall::WriteKey => {
+        TableCommand::WriteKey => {
             let (key, value) = pair(number, counts);
             Ok(Command::WriteKey(index, key, value))
         }
@@ -254,7 +242,7 @@ pub(crate) const KINDS: [Kind; 8] = [
     Kind::RedBlackTreeSet,
 ];
 
-impl<'t> Subject<'t, Tests, Through<TableCall>> for Versions<'t> {
+impl<'t> Subject<'t, Tests, TableCall> for Versions<'t> {
     // The place of the kind. From 8 on there are 514 versions, so that the list of them, which grows by doubling, has room
     // for 510 more.
     fn start(variant: u8, faults: &'t Faults) -> Result<Self, AllocError> {
@@ -292,23 +280,23 @@ impl<'t> Subject<'t, Tests, Through<TableCall>> for Versions<'t> {
 
     fn perform(
         &mut self,
-        call: Through<TableCall>,
+        call: TableCall,
         number: u64,
         faults: &'t Faults,
     ) -> Result<bool, AllocError> {
         match call {
-            Apply(TableCall::Own(change)) => match self.table.version(0) {
-                Some(version) => own_call(version, change, number, &faults.counts),
-                _ => no_such_call(),
-            },
-            Apply(call) => {
-                let command = command(call, self.kind, 0, number, faults)?;
+            TableCall::Apply(given) => {
+                let command = command(given, self.kind, 0, number, faults)?;
                 apply(&mut self.table, command)
             }
-            Run(call) => {
-                let command = command(call, self.kind, 0, number, faults)?;
+            TableCall::Run(given) => {
+                let command = command(given, self.kind, 0, number, faults)?;
                 run(&mut self.table, command, faults)
             }
+            TableCall::Own(change) => match self.table.version(0) {
+                Some(version) => own_call(version, change, number, &faults.counts),
+                None => Ok(false),
+            },
         }
     }
 }
@@ -317,8 +305,8 @@ const SOME: &[u64] = &[1, 2, 3, 4, 5];
 
 // Of each kind, with some numbers and empty. The calls are made at a number that is there, and at one that isn't. In the
 // first version 1, 2 and 3 have the hash 0.
-const PLAN: Plan<'static, Through<TableCall>> = Plan {
-    put: Apply(TableCall::Change(InPlace, Put)),
+const PLAN: Plan<'static, TableCall> = Plan {
+    put: TableCall::Apply(TableCommand::Change(InPlace, Change::Put)),
     receivers: &[
         receiver!(SOME),
         receiver!(variant: 1, SOME),
@@ -345,28 +333,37 @@ const PLAN: Plan<'static, Through<TableCall>> = Plan {
     limits: &[],
 };
 
-const COMMANDS: [TableCall; 17] = [
-    TableCall::Make,
-    TableCall::MakeBits(3),
-    TableCall::MakeDegree(4),
-    TableCall::MakeSorted,
-    TableCall::MakeSortedItems,
-    TableCall::Copy,
-    TableCall::Change(New, Put),
-    TableCall::Change(New, Take),
-    TableCall::Change(New, Set),
-    TableCall::Change(New, Reverse),
-    TableCall::Change(InPlace, Put),
-    TableCall::Change(InPlace, Take),
-    TableCall::Change(InPlace, Set),
-    TableCall::Change(InPlace, Reverse),
-    TableCall::Extend,
-    TableCall::WriteAt,
-    TableCall::WriteKey,
+const MAKES: &[TableCommand] = &[
+    TableCommand::Make,
+    TableCommand::MakeBits(3),
+    TableCommand::MakeDegree(4),
+    TableCommand::Copy,
+];
+
+const MAKES_OF_SORTED: &[TableCommand] = &[TableCommand::MakeSorted, TableCommand::MakeSortedItems];
+
+const NEW_VERSIONS: &[TableCommand] = &[
+    TableCommand::Change(New, Change::Put),
+    TableCommand::Change(New, Change::Take),
+    TableCommand::Change(New, Change::Set),
+    TableCommand::Change(New, Change::Reverse),
+];
+
+const IN_PLACE: &[TableCommand] = &[
+    TableCommand::Change(InPlace, Change::Put),
+    TableCommand::Change(InPlace, Change::Take),
+    TableCommand::Change(InPlace, Change::Set),
+    TableCommand::Change(InPlace, Change::Reverse),
+];
+
+const WRITES: &[TableCommand] = &[
+    TableCommand::Extend,
+    TableCommand::WriteAt,
+    TableCommand::WriteKey,
 ];
 
 // There is nothing to take out of an empty version, and none has the item 9 or the key 9.
-const WITHOUT_MEMORY: &[NoMemoryRow<'static, Through<TableCall>>] = &[
+const WITHOUT_MEMORY: &[NoMemoryRow<'static, TableCall>] = &[
     no_memory!(receiver!(&[]), calls: TAKES, at: 9, answer: false),
     no_memory!(receiver!(variant: 1, &[]), calls: TAKES, at: 9, answer: false),
     no_memory!(receiver!(variant: 2, &[]), calls: TAKES, at: 9, answer: false),
@@ -379,35 +376,60 @@ const WITHOUT_MEMORY: &[NoMemoryRow<'static, Through<TableCall>>] = &[
     no_memory!(receiver!(variant: 7, &[]), calls: AT_A_KEY, at: 9, answer: false),
 ];
 
-const TAKES: &[Through<TableCall>] = &[
-    Apply(TableCall::Change(New, Take)),
-    Apply(TableCall::Change(InPlace, Take)),
+const TAKES: &[TableCall] = &[
+    TableCall::Apply(TableCommand::Change(New, Change::Take)),
+    TableCall::Apply(TableCommand::Change(InPlace, Change::Take)),
 ];
 
-const AT_A_PLACE: &[Through<TableCall>] = &[
-    Apply(TableCall::Change(New, Set)),
-    Apply(TableCall::Change(InPlace, Set)),
-    Apply(TableCall::WriteAt),
+const AT_A_PLACE: &[TableCall] = &[
+    TableCall::Apply(TableCommand::Change(New, Change::Set)),
+    TableCall::Apply(TableCommand::Change(InPlace, Change::Set)),
+    TableCall::Apply(TableCommand::WriteAt),
 ];
 
-const AT_A_KEY: &[Through<TableCall>] = &[
-    Apply(TableCall::Change(InPlace, Take)),
-    Apply(TableCall::WriteKey),
+const AT_A_KEY: &[TableCall] = &[
+    TableCall::Apply(TableCommand::Change(InPlace, Change::Take)),
+    TableCall::Apply(TableCommand::WriteKey),
 ];
 
 // How many requests and clones of the command were refused.
-fn refused_of(rt: &impl Abort, faults: &Faults, call: Through<TableCall>) -> u64 {
+fn refused_of(rt: &impl Abort, faults: &Faults, call: TableCall) -> u64 {
     refusals::<Tests, _, Versions>(faults, &PLAN, call).expect(rt, "each refusal")
 }
 
-#[test]
-fn refused(rt: HostRuntime) {
-    let faults = Faults::new(rt.alloc());
-    for call in COMMANDS {
-        let applied = refused_of(&rt, &faults, Apply(call));
-        let run = refused_of(&rt, &faults, Run(call));
-        assert!(rt; applied > 0 && run > applied, "{call:?}");
+// Each of the commands is refused some, and more where a list of commands is made for it.
+fn assert_refused(rt: &impl Abort, alloc: Global, commands: &[TableCommand]) {
+    let faults = Faults::new(alloc);
+    for command in commands {
+        let applied = refused_of(rt, &faults, TableCall::Apply(*command));
+        let run = refused_of(rt, &faults, TableCall::Run(*command));
+        assert!(rt; applied > 0 && run > applied, "{command:?}");
     }
+}
+
+#[test]
+fn makes(rt: HostRuntime) {
+    assert_refused(&rt, rt.alloc(), MAKES);
+}
+
+#[test]
+fn makes_of_sorted(rt: HostRuntime) {
+    assert_refused(&rt, rt.alloc(), MAKES_OF_SORTED);
+}
+
+#[test]
+fn new_versions(rt: HostRuntime) {
+    assert_refused(&rt, rt.alloc(), NEW_VERSIONS);
+}
+
+#[test]
+fn in_place(rt: HostRuntime) {
+    assert_refused(&rt, rt.alloc(), IN_PLACE);
+}
+
+#[test]
+fn writes(rt: HostRuntime) {
+    assert_refused(&rt, rt.alloc(), WRITES);
 }
 
 #[test]

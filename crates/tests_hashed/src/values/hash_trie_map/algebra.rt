@@ -1,4 +1,5 @@
 //! Maps of two maps beside std's maps.
+use crate::values::hash_trie_map::diffs::assert_changes;
 use crate::values::hash_trie_map::random::key_of;
 use rpds_faults::{FlooredBuild, LifeCounts, Numbers};
 use rpds_hash::map::hash_trie_map::HashTrieMap;
@@ -16,16 +17,23 @@ pub(crate) type Both<'m, 't> = (&'m NumberMap<'t>, &'m Model);
 // The floor of a map's hasher, its degree, the least of its numbers, and how many are put in.
 pub(crate) type Made = (u64, u8, u64, u64);
 
-// By one hasher: all in common, half and none, few and many, where keys collide, and where paths are long. By two hashers, and by two
-// degrees.
-const ROWS: [(Made, Made); 10] = [
+// By one hasher: all in common, half and none, few and many.
+const BY_ONE_HASHER: [(Made, Made); 4] = [
     ((0, 64, 0, 60), (0, 64, 0, 60)),
     ((0, 64, 0, 60), (0, 64, 40, 60)),
     ((0, 64, 0, 400), (0, 64, 0, 3)),
     ((0, 2, 0, 60), (0, 2, 80, 60)),
+];
+
+// Where keys collide, and where paths are long.
+const COLLIDING: [(Made, Made); 3] = [
     ((12, 16, 0, 60), (12, 16, 0, 60)),
     ((12, 2, 0, 60), (12, 2, 8, 9)),
     ((12, 4, 0, 9), (12, 4, 0, 1)),
+];
+
+// By two hashers, and by two degrees.
+const BY_TWO: [(Made, Made); 3] = [
     ((0, 64, 0, 60), (12, 64, 0, 60)),
     ((12, 16, 0, 60), (0, 16, 8, 60)),
     ((0, 64, 0, 60), (0, 16, 40, 60)),
@@ -183,6 +191,7 @@ fn assert_combined<'t>(
     let either = map.union(other).expect(rt, "ample memory");
     assert_made(rt, either, models, Kept::InEither);
     assert_united(rt, (map, other), models);
+    assert_changes(rt, (map, model), (other, other_model));
 }
 
 // Both ways.
@@ -229,7 +238,14 @@ fn assert_with<'t>(
     assert_both_ways(rt, mine, (&map, &model));
 }
 
-// Both ways, of the two, of the first with none, and of versions.
+// Of each row both ways, of the two, of the first with none, and of versions.
+fn assert_rows(rt: &impl Abort, alloc: Global, rows: &[(Made, Made)]) {
+    let mut numbers = Numbers::new();
+    for row in rows {
+        assert_row(rt, alloc, row, &mut numbers);
+    }
+}
+
 fn assert_row(rt: &impl Abort, alloc: Global, row: &(Made, Made), numbers: &mut Numbers) {
     let counts = LifeCounts::new();
     let (map, model) = filled(rt, alloc, row.0, &counts, numbers);
@@ -241,8 +257,15 @@ fn assert_row(rt: &impl Abort, alloc: Global, row: &(Made, Made), numbers: &mut 
 
 #[test]
 fn agrees_with_std_maps(rt: HostRuntime) {
-    let mut numbers = Numbers::new();
-    for row in &ROWS {
-        assert_row(&rt, rt.alloc(), row, &mut numbers);
-    }
+    assert_rows(&rt, rt.alloc(), &BY_ONE_HASHER);
+}
+
+#[test]
+fn agrees_with_std_maps_where_keys_collide(rt: HostRuntime) {
+    assert_rows(&rt, rt.alloc(), &COLLIDING);
+}
+
+#[test]
+fn agrees_with_std_maps_by_two_hashers_or_degrees(rt: HostRuntime) {
+    assert_rows(&rt, rt.alloc(), &BY_TWO);
 }

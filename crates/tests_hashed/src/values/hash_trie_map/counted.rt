@@ -5,7 +5,7 @@ ghost use Rattle.tests_hashed.specs.HashVisits.{LookUpRows};
 
 use crate::values::hash_trie_map::scenarios::map_of;
 use rpds_core::steps::Steps;
-use rpds_faults::{FlooredBuild, LifeCounts};
+use rpds_faults::{FailingItem, FlooredBuild, LifeCounts};
 use rpds_hash::map::hash_trie_map::HashTrieMap;
 use std::alloc::{Allocator, Global};
 use std::hash::{BuildHasher, Hash};
@@ -86,7 +86,19 @@ fn hashed_by_both(
     [by_union, by_intersection, counts.hashed()]
 }
 
-// A call at a key hashes that one. A union hashes the keys of the other map, and the others those of the smaller one.
+// The same of the changes from one map to the other.
+fn hashed_by_changes_told(
+    map: &CountedMap<'_>,
+    other: &CountedMap<'_>,
+    counts: &LifeCounts,
+) -> u64 {
+    counts.hashed();
+    for _ in map.diff(other) {}
+    counts.hashed()
+}
+
+// A call at a key hashes that one. A union hashes the keys of the other map, an intersection and a difference those of the smaller one,
+// and the changes those of both.
 #[test]
 fn keys_are_hashed_once(rt: HostRuntime) {
     let counts = LifeCounts::new();
@@ -96,4 +108,23 @@ fn keys_are_hashed_once(rt: HostRuntime) {
     assert!(rt; hashed_by_changes(&rt, &large, &counts) == [1; 2]);
     assert!(rt; hashed_by_both(&rt, &large, &small, &counts) == [10; 3]);
     assert!(rt; hashed_by_both(&rt, &small, &large, &counts) == [1_000, 10, 10]);
+    assert!(rt; hashed_by_changes_told(&large, &small, &counts) == 1_010);
+}
+
+// The keys up to 3 have one hash.
+#[test]
+fn new_values_hash_and_compare_no_key(rt: HostRuntime) {
+    let counts = LifeCounts::new();
+    let mut map = HashTrieMap::new_with_hasher(rt.alloc(), FlooredBuild::new(3, &counts));
+    for number in 0..1_000u64 {
+        map.insert_mut(FailingItem::new(number, &counts), number)
+            .expect(&rt, "ample memory");
+    }
+    counts.hashed();
+    counts.matched();
+    let next = map
+        .map_values(|value: &u64| Ok(value.wrapping_add(1)))
+        .expect(&rt, "ample memory");
+    assert!(rt; counts.hashed() == 0 && counts.matched() == 0);
+    assert!(rt; next.get(&FailingItem::new(2, &counts)) == Some(&3));
 }

@@ -1,6 +1,6 @@
 //! Which of two equal keys stays: keys that carry a tag show it.
 use crate::values::hash_trie_map::keys::Tagged;
-use rpds_hash::map::hash_trie_map::HashTrieMap;
+use rpds_hash::map::hash_trie_map::{HashTrieMap, MapChange};
 use std::alloc::{AllocError, Global};
 use std::process::Abort;
 
@@ -12,7 +12,7 @@ type Stored = Option<(char, u64)>;
 // Two maps: what their ids are below, and one of how many each of them has.
 type Sizes = (u64, u64, u64);
 
-/// What makes a map of two.
+// What makes a map of two.
 #[derive(Clone, Copy, Debug)]
 enum Call {
     Union,
@@ -41,12 +41,13 @@ const ROWS: [(Call, [Stored; 3]); 8] = [
     (Call::Update, [Some(('b', 3)), OURS, THEIRS]),
 ];
 
+// A thousand ids take three levels at degree 64, and four at degree 8.
 const SIZES: [Sizes; 5] = [
     (3, 1, 2),
     (70, 2, 3),
-    (5_000, 2, 3),
-    (5_000, 40, 1),
-    (5_000, 1, 40),
+    (1_000, 2, 3),
+    (1_000, 40, 1),
+    (1_000, 1, 40),
 ];
 
 // Whether a map has the id that has one of so many, in no simple order.
@@ -134,6 +135,20 @@ fn assert_row(
     }
 }
 
+// A key that goes is told as our map has it, and one that stays or comes as theirs has it.
+fn assert_changes(rt: &impl Abort, ours: &TaggedMap, theirs: &TaggedMap, sizes: Sizes) {
+    let (_, our_of, their_of) = sizes;
+    for change in ours.diff(theirs) {
+        let (key, is_there) = match change {
+            MapChange::Removed(key, _) => (key, (true, false)),
+            MapChange::Added(key, _) => (key, (false, true)),
+            MapChange::Changed(key, _, _) => (key, (true, true)),
+        };
+        assert!(rt; (has(key.id, our_of), has(key.id, their_of)) == is_there);
+        assert!(rt; (key.tag == 'b') == is_there.1);
+    }
+}
+
 // Our map is of the degree 64, and theirs is handed in.
 fn assert_rows(rt: &impl Abort, alloc: Global, mut theirs: TaggedMap, sizes: Sizes) {
     let (end, our_of, their_of) = sizes;
@@ -143,17 +158,22 @@ fn assert_rows(rt: &impl Abort, alloc: Global, mut theirs: TaggedMap, sizes: Siz
     for row in &ROWS {
         assert_row(rt, &ours, &theirs, row, sizes);
     }
+    assert_changes(rt, &ours, &theirs, sizes);
 }
 
-// Two maps of one degree are gone down at once, of two the keys are looked up.
-fn assert_sizes(rt: &impl Abort, alloc: Global, sizes: Sizes) {
-    assert_rows(rt, alloc, HashTrieMap::new(alloc), sizes);
-    assert_rows(rt, alloc, HashTrieMap::new_with_degree(alloc, 8), sizes);
-}
-
+// Two tries of one degree are walked together.
 #[test]
-fn the_key_that_stays_is_told(rt: HostRuntime) {
+fn the_right_key_stays(rt: HostRuntime) {
     for sizes in &SIZES {
-        assert_sizes(&rt, rt.alloc(), *sizes);
+        assert_rows(&rt, rt.alloc(), HashTrieMap::new(rt.alloc()), *sizes);
+    }
+}
+
+// Of two degrees, keys are looked up.
+#[test]
+fn the_right_key_stays_of_two_degrees(rt: HostRuntime) {
+    for sizes in &SIZES {
+        let theirs = HashTrieMap::new_with_degree(rt.alloc(), 8);
+        assert_rows(&rt, rt.alloc(), theirs, *sizes);
     }
 }

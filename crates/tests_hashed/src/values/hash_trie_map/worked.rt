@@ -194,3 +194,14 @@ fn extended(rt: HostRuntime) {
     assert!(rt; map.size() == 3 && map.get(&1).copied() == Some(10));
     assert!(rt; map.get(&2).copied() == Some(7) && map.get(&3).copied() == Some(31));
 }
+
+// By references to keys and values.
+#[test]
+fn extended_by_copies(rt: HostRuntime) {
+    let mut map = map_of(&rt, rt.alloc(), 64, &[1, 2]);
+    let before = map.clone().expect(&rt, "ample memory");
+    let more = map_of(&rt, rt.alloc(), 64, &[3]);
+    Extend::extend(&mut map, &more).expect(&rt, "ample memory");
+    assert!(rt; map.size() == 3 && map.get(&3).copied() == Some(30));
+    assert!(rt; before.size() == 2);
+}

@@ -2,8 +2,13 @@
 use crate::values::hash_trie_map::keys::Tagged;
 use rpds_faults::texts_are;
 use rpds_hash::identity_build::IdentityBuild;
-use rpds_hash::set::hash_trie_set::HashTrieSet;
+use rpds_hash::set::hash_trie_set::{HashTrieSet, SetChange};
+use std::alloc::Global;
 use std::iter::Extend;
+use std::process::Abort;
+
+// A set whose members are their own hashes.
+type NumberSet = HashTrieSet<u64, IdentityBuild>;
 
 #[test]
 fn an_equal_item_takes_the_place_of_the_stored_one(rt: HostRuntime) {
@@ -53,4 +58,41 @@ fn extended(rt: HostRuntime) {
     Extend::extend(&mut set, more.iter()).expect(&rt, "ample memory");
     assert!(rt; set.size() == 3);
     assert!(rt; set.contains(&1) && set.contains(&2) && set.contains(&3));
+}
+
+fn set_of(rt: &impl Abort, alloc: Global, members: &[u64]) -> NumberSet {
+    let mut set = HashTrieSet::new_with_hasher(alloc, IdentityBuild {});
+    for member in members {
+        set.insert_mut(*member).expect(rt, "ample memory");
+    }
+    set
+}
+
+// The changes from the first to the second, in order, and no other.
+fn assert_changes(
+    rt: &impl Abort,
+    set: &NumberSet,
+    other: &NumberSet,
+    wanted: &[SetChange<'_, u64>],
+) {
+    let mut changes = set.diff(other);
+    for change in wanted {
+        assert!(rt; changes.size_hint() == (0, None));
+        assert!(rt; changes.next() == Some(*change));
+    }
+    assert!(rt; changes.next().is_none() && changes.next().is_none());
+}
+
+#[test]
+fn differences(rt: HostRuntime) {
+    let set = set_of(&rt, rt.alloc(), &[1, 2, 3, 5]);
+    let other = set_of(&rt, rt.alloc(), &[5, 64, 2, 0]);
+    let wanted = [
+        SetChange::Removed(&1),
+        SetChange::Removed(&3),
+        SetChange::Added(&0),
+        SetChange::Added(&64),
+    ];
+    assert_changes(&rt, &set, &other, &wanted);
+    assert_changes(&rt, &set, &set, &[]);
 }

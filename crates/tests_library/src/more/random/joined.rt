@@ -174,3 +174,92 @@ fn a_change_is_called_once_a_value_of_an_ordered_map(rt: HostRuntime) {
         .expect(&rt, "ample memory");
     assert!(rt; same == map && calls.get() == 100);
 }
+
+// One side changed the keys 1 and 4, both changed 2 alike, and 3 and 5 otherwise.
+const BASE: [(u64, u64); 5] = [(1, 1), (2, 2), (3, 3), (4, 4), (5, 5)];
+
+const OURS: [(u64, u64); 4] = [(1, 10), (2, 20), (3, 30), (4, 4)];
+
+const THEIRS: [(u64, u64); 5] = [(1, 1), (2, 20), (3, 31), (4, 41), (5, 51)];
+
+// The merge, where each conflict is settled by 0.
+const MERGED: [(u64, u64); 5] = [(1, 10), (2, 20), (3, 0), (4, 41), (5, 0)];
+
+// The union of ours and theirs, where each common key has 0.
+const UNITED: [(u64, u64); 5] = [(1, 0), (2, 0), (3, 0), (4, 0), (5, 51)];
+
+fn ordered_of(rt: &impl Abort, alloc: Global, pairs: &[(u64, u64)]) -> RedBlackTreeMap<u64, u64> {
+    RedBlackTreeMap::from_iter(alloc, pairs.iter().copied()).expect(rt, "ample memory")
+}
+
+fn hashed_of(rt: &impl Abort, alloc: Global, pairs: &[(u64, u64)]) -> HashTrieMap<u64, u64> {
+    HashTrieMap::from_iter(alloc, pairs.iter().copied()).expect(rt, "ample memory")
+}
+
+// What was made is as wanted, and its closure was called so often.
+fn assert_made<M: PartialEq>(
+    rt: &impl Abort,
+    (made, wanted): (&M, &M),
+    (calls, times): (&Cell<u64>, u64),
+) {
+    assert!(rt; *made == *wanted);
+    assert!(rt; calls.get() == times);
+}
+
+#[test]
+fn a_merge_of_ordered_maps_asks_once_a_conflict(rt: HostRuntime) {
+    let calls = Cell::new(0);
+    let ours = ordered_of(&rt, rt.alloc(), &OURS);
+    let theirs = ordered_of(&rt, rt.alloc(), &THEIRS);
+    let merged = ordered_of(&rt, rt.alloc(), &BASE)
+        .merge(
+            &ours,
+            &theirs,
+            |_: &u64, _: Option<&u64>, _: Option<&u64>, _: Option<&u64>| {
+                Ok(Some(counted(&calls, 0)?))
+            },
+        )
+        .expect(&rt, "ample memory");
+    let wanted = ordered_of(&rt, rt.alloc(), &MERGED);
+    assert_made(&rt, (&merged, &wanted), (&calls, 2));
+}
+
+#[test]
+fn a_merge_of_hashed_maps_asks_once_a_conflict(rt: HostRuntime) {
+    let calls = Cell::new(0);
+    let ours = hashed_of(&rt, rt.alloc(), &OURS);
+    let theirs = hashed_of(&rt, rt.alloc(), &THEIRS);
+    let merged = hashed_of(&rt, rt.alloc(), &BASE)
+        .merge(
+            &ours,
+            &theirs,
+            |_: &u64, _: Option<&u64>, _: Option<&u64>, _: Option<&u64>| {
+                Ok(Some(counted(&calls, 0)?))
+            },
+        )
+        .expect(&rt, "ample memory");
+    let wanted = hashed_of(&rt, rt.alloc(), &MERGED);
+    assert_made(&rt, (&merged, &wanted), (&calls, 2));
+}
+
+#[test]
+fn a_union_of_ordered_maps_asks_once_a_common_key(rt: HostRuntime) {
+    let calls = Cell::new(0);
+    let theirs = ordered_of(&rt, rt.alloc(), &THEIRS);
+    let united = ordered_of(&rt, rt.alloc(), &OURS)
+        .union_with(&theirs, |_: &u64, _: &u64, _: &u64| counted(&calls, 0))
+        .expect(&rt, "ample memory");
+    let wanted = ordered_of(&rt, rt.alloc(), &UNITED);
+    assert_made(&rt, (&united, &wanted), (&calls, 4));
+}
+
+#[test]
+fn a_union_of_hashed_maps_asks_once_a_common_key(rt: HostRuntime) {
+    let calls = Cell::new(0);
+    let theirs = hashed_of(&rt, rt.alloc(), &THEIRS);
+    let united = hashed_of(&rt, rt.alloc(), &OURS)
+        .union_with(&theirs, |_: &u64, _: &u64, _: &u64| counted(&calls, 0))
+        .expect(&rt, "ample memory");
+    let wanted = hashed_of(&rt, rt.alloc(), &UNITED);
+    assert_made(&rt, (&united, &wanted), (&calls, 4));
+}

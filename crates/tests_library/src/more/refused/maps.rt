@@ -1,7 +1,7 @@
 //! The further calls of hashed maps.
 use crate::Tests;
 use rpds_faults::{FailingAllocator, FailingItem, Faults, FlooredBuild, LifeCounts};
-use rpds_hash::map::hash_trie_map::{DefaultBuildHasher, HashTrieMap};
+use rpds_hash::map::hash_trie_map::HashTrieMap;
 use rpds_refusals::answer::{always_true, put_in_place};
 use rpds_refusals::check::check_calls;
 use rpds_refusals::item::pair;
@@ -31,7 +31,7 @@ enum MapCall {
     MapValues,
 }
 
-/// Whether the number is one of a hundred whose hashes have the same three lowest digits.
+// Whether the number is one of a hundred whose hashes have the same three lowest digits.
 pub(super) fn is_of_hundred(number: u64) -> bool {
     number % 64 == 3 && 64 < number && number < 6_464
 }
@@ -73,7 +73,7 @@ fn perform<'t>(
         }
         MapCall::Retain => always_true(map.retain(|key, _| key.number != number)),
         MapCall::RetainMost => always_true(map.retain(|key, _| !is_of_hundred(key.number))),
-        MapCall::MapValues => map_values(number, faults),
+        MapCall::MapValues => dropped(map.map_values(|value| value.clone())),
     }
 }
 
@@ -83,16 +83,6 @@ fn dropped<M: Drop>(made: Result<M, AllocError>) -> Result<bool, AllocError> {
         Ok(_) => Ok(false),
         Err(error) => Err(error),
     }
-}
-
-// Makes the values anew of a hashed map whose hasher has a default.
-fn map_values(number: u64, faults: &Faults) -> Result<bool, AllocError> {
-    let counts = &faults.counts;
-    let map: HashTrieMap<_, _, DefaultBuildHasher, _> = HashTrieMap::from_iter(
-        &faults.alloc,
-        [pair(2, counts), pair(number, counts)],
-    )?;
-    dropped(map.map_values(|value| value.clone()))
 }
 
 // A value was put in, and an old one handed out, if there was one.
@@ -168,6 +158,7 @@ const PLAN: Plan<'static, MapCall> = Plan {
 
 const LARGE: LargeContainer = LargeContainer {
     variant: 0,
+    count: 10_000,
     step: 1,
     limit: 10_000,
 };
@@ -180,12 +171,27 @@ const PAIR: u64 = 24 + 32;
 // The path of a key has eight branches at most and a leaf, two requests for each; a new key may need one more.
 const PATH: u64 = 9 * BRANCH;
 
-/// The branches above a hundred keys whose hashes have the same three lowest digits: below three, one, and then four of each, up to
-/// the last digits of 10,000 keys.
+// The branches above a hundred keys whose hashes have the same three lowest digits: below three, one, and then four of each, up to
+// the last digits of 10,000 keys.
 pub(super) const ABOVE_HUNDRED: u64 = 3 + 1 + 4 + 16 + 64;
 
-// At degree 64, where a hash has 11 digits.
-const LONGEST: u64 = 12 * (80 + 64 * 8);
+// The branches of 10,000 keys: those of the first seven digits, below each of which lie two hashes or more, and one for each other of
+// the 32 digits above the four keys of one hash.
+const BRANCHES: u64 = 1 + 4 + 16 + 64 + 256 + 1_024 + 4_096 + (32 - 7);
+
+// The other keys have a leaf each.
+const LEAVES: u64 = 10_000 - 4;
+
+// A map of so many keys: a pair and a leaf for each, a node and a row for each branch, and for the four of one hash a node, what it
+// points to, and a row of three.
+const WHOLE: u64 = 10_000 + LEAVES + 2 * BRANCHES + 3;
+
+// Each node but the root stands in a row.
+const WHOLE_BYTES: u64 = 10_000 * PAIR
+    + (LEAVES + BRANCHES + 1) * 80
+    + (LEAVES + BRANCHES) * 8
+    + (24 + 48)
+    + 3 * 16;
 
 const ROWS: &[MemoryRow<'static, MapCall>] = &[
     memory!(
@@ -201,9 +207,9 @@ const ROWS: &[MemoryRow<'static, MapCall>] = &[
     // Two of the keys have one hash, and lie below all its 32 digits.
     memory!(Shared, calls: &[MapCall::Extend], at: &[9_000, 10_001],
         requests: 21 + 2 * 69, bytes: PATH + 69 * BRANCH + 3 * PAIR),
-    // Two maps of two keys, one of which is handed out.
+    // Each key and each value is cloned once, and the hasher.
     memory!(Shared, calls: &[MapCall::MapValues], at: &[7],
-        answer: false, requests: 4 * 25, bytes: 4 * (LONGEST + PAIR)),
+        answer: false, clones: 2 * 10_000 + 1, requests: WHOLE, bytes: WHOLE_BYTES),
 ];
 
 #[test]

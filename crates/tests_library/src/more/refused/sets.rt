@@ -113,6 +113,7 @@ const PLAN: Plan<'static, SetCall> = Plan {
 
 const LARGE: LargeContainer = LargeContainer {
     variant: 0,
+    count: 10_000,
     step: 1,
     limit: 10_000,
 };

@@ -375,5 +375,5 @@ fn agrees_with_a_vec(rt: HostRuntime) {
 
 #[test]
 fn agrees_with_a_long_vec(rt: HostRuntime) {
-    run(&rt, rt.alloc(), 10_000, 4);
+    run(&rt, rt.alloc(), 4_000, 4);
 }

@@ -15,6 +15,12 @@ fn collected(rt: HostRuntime) {
 }
 
 #[test]
+fn made_of_an_array(rt: HostRuntime) {
+    let sequence = Sequence::from_array(rt.alloc(), [3, 1, 2]).expect(&rt, "ample memory");
+    assert_items(&rt, &sequence, &[3, 1, 2]);
+}
+
+#[test]
 fn extended(rt: HostRuntime) {
     let mut sequence = counting(rt.alloc(), 2).expect(&rt, "ample memory");
     Extend::extend(&mut sequence, [7u64, 8]).expect(&rt, "ample memory");
