@@ -37,6 +37,7 @@ CALLS = [
     "RedBlackTreeMap::remove",
     "RedBlackTreeMap::remove_mut",
     "RedBlackTreeMap::iter",
+    "RedBlackTreeMap::eq clone",
     "RedBlackTreeMap::range first",
     "RedBlackTreeMap::range of 100",
     "RedBlackTreeMap::union absent",
@@ -47,6 +48,7 @@ CALLS = [
     "HashTrieMap::insert_mut",
     "HashTrieMap::remove",
     "HashTrieMap::iter",
+    "HashTrieMap::eq clone",
     "HashTrieSet::union absent",
     "HashTrieSet::intersection few",
 ]

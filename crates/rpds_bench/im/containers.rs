@@ -93,9 +93,9 @@ fn ends(cases: &Cases, pop: &str, pop_mut: &str) {
     });
     cases.changes("clone", Start::Own, &keys.stored, |it: &mut Numbers, _| drop(black_box(it.clone())));
     cases.call("drop", &[], |it: Numbers, _| drop(it));
-    cases.call("iter", &[], |it: Numbers, _| (sum(it.iter()), it));
-    cases.call("eq", &keys.stored, |it: Numbers, other| (it == *other, it));
-    cases.call("cmp", &keys.stored, |it: Numbers, other| (it.cmp(other), it));
+    cases.whole("iter", &[], |it: &mut Numbers, _| sum(it.iter()));
+    cases.whole("eq", &keys.stored, |it: &mut Numbers, other| *it == *other);
+    cases.whole("cmp", &keys.stored, |it: &mut Numbers, other| (*it).cmp(other));
     cases.looks("get", positions, |it: &Numbers, position| it.get(*position).copied().unwrap_or(0));
     cases.versions("set", Start::Shared, positions, |it: &Numbers, position| {
         Some(it.update(position, 7))
@@ -158,10 +158,7 @@ pub fn sequence(cases: &Cases) {
         }
     });
     cases.call("from_iter", &[], |_: Numbers, _| keys.stored.iter().copied().collect::<Numbers>());
-    cases.call("retain half", &[], |mut it: Numbers, _| {
-        it.retain(|item| *item % 2 == 0);
-        it
-    });
+    cases.whole("retain half", &[], |it: &mut Numbers, _| it.retain(|item| *item % 2 == 0));
     cases.call("map", &[], |it: Numbers, _| it.iter().copied().collect::<Numbers>());
 }
 
@@ -189,9 +186,9 @@ macro_rules! keyed {
             drop(black_box(it.clone()))
         });
         $cases.call("drop", &[], |it: $container, _| drop(it));
-        $cases.call("iter", &[], |it: $container, _| ($sum(&it), it));
-        $cases.call("eq", &keys.shuffled, |it: $container, other| (it == *other, it));
-        $cases.call("eq clone", &[], |it: $container, _| (it == it.clone(), it));
+        $cases.whole("iter", &[], |it: &mut $container, _| $sum(it));
+        $cases.whole("eq", &keys.shuffled, |it: &mut $container, other| *it == *other);
+        $cases.whole("eq clone", &[], |it: &mut $container, _| *it == it.clone());
     };
 }
 
@@ -225,8 +222,8 @@ macro_rules! set {
             |set: &$container, key: &u64| u64::from(set.contains(key)),
             |set: &$container| sum(set.iter())
         );
-        $cases.call("is_subset", &$cases.keys.shuffled, |set: $container, other| {
-            (set.is_subset(other), set)
+        $cases.whole("is_subset", &$cases.keys.shuffled, |set: &mut $container, other| {
+            set.is_subset(other)
         });
     };
 }

@@ -6,14 +6,14 @@ use crate::keys::Keys;
 
 pub fn ordered_maps(cases: &Cases) {
     let keys = cases.keys;
-    cases.call("union absent", &keys.absent, |map: Map, other| (map.clone().union(other.clone()), map));
-    cases.call("intersection stored", &keys.shuffled, |map: Map, other| {
-        (map.clone().intersection(other.clone()), map)
+    cases.whole("union absent", &keys.absent, |map: &mut Map, other| map.clone().union(other.clone()));
+    cases.whole("intersection stored", &keys.shuffled, |map: &mut Map, other| {
+        map.clone().intersection(other.clone())
     });
-    cases.call("difference absent", &keys.absent, |map: Map, other| {
-        (map.clone().relative_complement(other.clone()), map)
+    cases.whole("difference absent", &keys.absent, |map: &mut Map, other| {
+        map.clone().relative_complement(other.clone())
     });
-    cases.call("diff stored", &keys.shuffled, |map: Map, other| (map.diff(other).count(), map));
+    cases.whole("diff stored", &keys.shuffled, |map: &mut Map, other| map.diff(other).count());
 }
 
 /// A map, and one that lacks a hundred of its keys.
@@ -32,23 +32,23 @@ pub fn few_differences(cases: &Cases) {
 pub fn hashed_sets(cases: &Cases) {
     let keys = cases.keys;
     let few = &keys.shuffled[..keys.shuffled.len().min(100)];
-    cases.call("union absent", &keys.absent, |set: HashSet, other| (set.clone().union(other.clone()), set));
-    cases.call("intersection stored", &keys.shuffled, |set: HashSet, other| {
-        (set.clone().intersection(other.clone()), set)
+    cases.whole("union absent", &keys.absent, |set: &mut HashSet, other| set.clone().union(other.clone()));
+    cases.whole("intersection stored", &keys.shuffled, |set: &mut HashSet, other| {
+        set.clone().intersection(other.clone())
     });
-    cases.call("intersection absent", &keys.absent, |set: HashSet, other| {
-        (set.clone().intersection(other.clone()), set)
+    cases.whole("intersection absent", &keys.absent, |set: &mut HashSet, other| {
+        set.clone().intersection(other.clone())
     });
-    cases.call("difference absent", &keys.absent, |set: HashSet, other| {
-        (set.clone().relative_complement(other.clone()), set)
+    cases.whole("difference absent", &keys.absent, |set: &mut HashSet, other| {
+        set.clone().relative_complement(other.clone())
     });
-    cases.call("intersection few", few, |set: HashSet, other| {
-        (set.clone().intersection(other.clone()), set)
+    cases.whole("intersection few", few, |set: &mut HashSet, other| {
+        set.clone().intersection(other.clone())
     });
-    cases.call("difference few", few, |set: HashSet, other| {
-        (set.clone().relative_complement(other.clone()), set)
+    cases.whole("difference few", few, |set: &mut HashSet, other| {
+        set.clone().relative_complement(other.clone())
     });
-    cases.call("symmetric_difference few", few, |set: HashSet, other| {
-        (set.clone().symmetric_difference(other.clone()), set)
+    cases.whole("symmetric_difference few", few, |set: &mut HashSet, other| {
+        set.clone().symmetric_difference(other.clone())
     });
 }

@@ -44,6 +44,11 @@ pub struct Cases<'a> {
 }
 
 impl Cases<'_> {
+    /// Whether a case is asked for that has these words in its name, so that what it needs has to be made.
+    pub fn asks_for(&self, words: &str) -> bool {
+        self.asked.is_none_or(|(_, call)| call.contains(words))
+    }
+
     fn is_asked(&self, case: &str) -> bool {
         self.asked.is_none_or(|asked| asked == (self.container, case))
     }
@@ -84,14 +89,13 @@ impl Cases<'_> {
     pub fn changes<S: Subject, K: Copy>(&self, case: &str, start: Start, keys: &[K], change: impl Fn(&mut S, K)) {
         if self.is_asked(case) {
             for _ in 0..self.rounds() {
-                let starts = self.starts::<S>(start);
-                let mut ends = Vec::with_capacity(starts.len());
+                let mut starts = self.starts::<S>(start);
                 let since = Instant::now();
-                for (subject, kept) in starts {
-                    ends.push((measured::changes(subject, keys, &change), kept));
+                for (subject, _) in &mut starts {
+                    measured::changes(subject, keys, &change);
                 }
                 self.tell(case, keys.len(), since);
-                drop(black_box(ends));
+                drop(black_box(starts));
             }
         }
     }
@@ -106,14 +110,13 @@ impl Cases<'_> {
     ) {
         if self.is_asked(case) {
             for _ in 0..self.rounds() {
-                let starts = self.starts::<S>(start);
-                let mut ends = Vec::with_capacity(starts.len());
+                let mut starts = self.starts::<S>(start);
                 let since = Instant::now();
-                for (subject, kept) in starts {
-                    ends.push((measured::versions(subject, keys, &change), kept));
+                for (subject, _) in &mut starts {
+                    measured::versions(subject, keys, &change);
                 }
                 self.tell(case, keys.len(), since);
-                drop(black_box(ends));
+                drop(black_box(starts));
             }
         }
     }
@@ -134,7 +137,24 @@ impl Cases<'_> {
         }
     }
 
-    /// One call on a container of all stored keys, and on another that was made of these.
+    /// One call on a container of all stored keys, which stays, and on another that was made of these.
+    pub fn whole<S: Subject, R>(&self, case: &str, others: &[u64], call: impl Fn(&mut S, &S) -> R) {
+        if self.is_asked(case) {
+            let other = S::of_numbers(others);
+            for _ in 0..self.rounds() {
+                let mut starts = self.starts::<S>(Start::Own);
+                let mut ends = Vec::with_capacity(starts.len());
+                let since = Instant::now();
+                for (subject, _) in &mut starts {
+                    ends.push(measured::whole(subject, &other, &call));
+                }
+                self.tell(case, self.keys.stored.len(), since);
+                drop(black_box(ends));
+            }
+        }
+    }
+
+    /// One call that takes a container of all stored keys, and another that was made of these by reference.
     pub fn call<S: Subject, R>(&self, case: &str, others: &[u64], call: impl Fn(S, &S) -> R) {
         if self.is_asked(case) {
             let other = S::of_numbers(others);

@@ -85,18 +85,17 @@ macro_rules! sequence {
         });
         $cases.changes("clone", Start::Own, stored, |it: &mut $container, _| drop(black_box(it.clone())));
         $cases.call("drop", &[], |it: $container, _| drop(it));
-        $cases.call("iter", &[], |it: $container, _| (sum(it.iter()), it));
-        $cases.call("eq", stored, |it: $container, other| (it == *other, it));
-        $cases.call("cmp", stored, |it: $container, other| (it.cmp(other), it));
+        $cases.whole("iter", &[], |it: &mut $container, _| sum(it.iter()));
+        $cases.whole("eq", stored, |it: &mut $container, other| *it == *other);
+        $cases.whole("cmp", stored, |it: &mut $container, other| (*it).cmp(other));
     };
 }
 
 pub fn list(cases: &Cases) {
     sequence!(cases, List<u64>, push_front, push_front_mut, drop_first, drop_first_mut);
-    cases.call("reverse", &[], |list: List<u64>, _| (list.reverse(), list));
-    cases.call("reverse_mut", &[], |mut list: List<u64>, _| {
+    cases.whole("reverse", &[], |list: &mut List<u64>, _| list.reverse());
+    cases.whole("reverse_mut", &[], |list: &mut List<u64>, _| {
         list.reverse_mut();
-        list
     });
 }
 
@@ -180,9 +179,9 @@ macro_rules! keyed {
             drop(black_box(it.clone()))
         });
         $cases.call("drop", &[], |it: $container, _| drop(it));
-        $cases.call("iter", &[], |it: $container, _| ($sum(&it), it));
-        $cases.call("eq", &keys.shuffled, |it: $container, other| (it == *other, it));
-        $cases.call("eq clone", &[], |it: $container, _| (it == it.clone(), it));
+        $cases.whole("iter", &[], |it: &mut $container, _| $sum(it));
+        $cases.whole("eq", &keys.shuffled, |it: &mut $container, other| *it == *other);
+        $cases.whole("eq clone", &[], |it: &mut $container, _| *it == it.clone());
     };
 }
 
@@ -217,11 +216,11 @@ macro_rules! set {
             |set: &$container| sum(set.iter())
         );
         let keys = $cases.keys;
-        $cases.call("is_subset", &keys.shuffled, |set: $container, other| {
-            (set.is_subset(other), set)
+        $cases.whole("is_subset", &keys.shuffled, |set: &mut $container, other| {
+            set.is_subset(other)
         });
-        $cases.call("is_disjoint", &keys.absent, |set: $container, other| {
-            (set.is_disjoint(other), set)
+        $cases.whole("is_disjoint", &keys.absent, |set: &mut $container, other| {
+            set.is_disjoint(other)
         });
     };
 }

@@ -39,6 +39,7 @@ fn main() {
     texts::red_black_tree_map(&cases("RedBlackTreeMap", &keys));
     containers::red_black_tree_set(&cases("RedBlackTreeSet", &keys));
     containers::hash_trie_map(&cases("HashTrieMap", &keys));
+    texts::hash_trie_map(&cases("HashTrieMap", &keys));
     containers::colliding(&cases("HashTrieMap", &few));
     containers::hash_trie_set(&cases("HashTrieSet", &keys));
     uses::kept(&cases("kept", &keys));

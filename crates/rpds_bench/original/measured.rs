@@ -1,22 +1,20 @@
 //! The functions whose instructions are counted, with those of all that they call.
 
 #[inline(never)]
-pub fn changes<S, K: Copy>(mut subject: S, keys: &[K], change: &impl Fn(&mut S, K)) -> S {
+pub fn changes<S, K: Copy>(subject: &mut S, keys: &[K], change: &impl Fn(&mut S, K)) {
     for key in keys {
-        change(&mut subject, *key);
+        change(subject, *key);
     }
-    subject
 }
 
 /// Makes a version with each key in turn, each of the one before it. Where none is made, that one stays.
 #[inline(never)]
-pub fn versions<S, K: Copy>(mut subject: S, keys: &[K], change: &impl Fn(&S, K) -> Option<S>) -> S {
+pub fn versions<S, K: Copy>(subject: &mut S, keys: &[K], change: &impl Fn(&S, K) -> Option<S>) {
     for key in keys {
-        if let Some(version) = change(&subject, *key) {
-            subject = version;
+        if let Some(version) = change(subject, *key) {
+            *subject = version;
         }
     }
-    subject
 }
 
 #[inline(never)]
@@ -26,6 +24,11 @@ pub fn looks<S, K>(subject: &S, keys: &[K], look: &impl Fn(&S, &K) -> u64) -> u6
         sum = sum.wrapping_add(look(subject, key));
     }
     sum
+}
+
+#[inline(never)]
+pub fn whole<S, R>(subject: &mut S, other: &S, call: &impl Fn(&mut S, &S) -> R) -> R {
+    call(subject, other)
 }
 
 #[inline(never)]

@@ -59,12 +59,22 @@ pub fn run(cases: &Cases<'_>) -> io::Result<()> {
                 .ours
                 .merge(&sides.theirs, |_, _, ours, _| Ok(ours.copied()))
         }))
+        .and(branch.once("rebase of 100", Sides::new, |sides: &Sides| {
+            let merged = sides.ours.rebase(sides.theirs.current())?;
+            Ok(merged.branch)
+        }))
         .and(map.once("diff of 100", Sides::new, |sides: &Sides| {
             let mut count = 0u64;
             for _ in sides.base.diff(sides.ours.current()) {
                 count = count.wrapping_add(1);
             }
             Ok(count)
+        }))
+        .and(map.once("merge_ours of 100", Sides::new, |sides: &Sides| {
+            let merged = sides
+                .base
+                .merge_ours(sides.ours.current(), sides.theirs.current())?;
+            Ok(merged.map)
         }))
         .and(map.once("merge of 100", Sides::new, |sides: &Sides| {
             sides.base.merge(

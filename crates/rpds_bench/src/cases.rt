@@ -30,6 +30,14 @@ impl<'a> Cases<'a> {
         Cases { container, ..*self }
     }
 
+    /// Whether a case is asked for that has these words in its name, so that what it needs has to be made.
+    pub fn asks_for(&self, words: &str) -> bool {
+        match self.asked {
+            Some((_, call)) => call.split_once(words).is_some(),
+            None => true,
+        }
+    }
+
     fn is_asked(&self, case: &str) -> bool {
         match self.asked {
             Some((container, call)) => container == self.container && call == case,
@@ -98,11 +106,10 @@ impl<'a> Cases<'a> {
     {
         if self.is_asked(case) {
             for _ in 0..self.rounds() {
-                let starts = self.starts::<S>(start)?;
-                let mut ends = Vec::with_capacity(self.keys.alloc, starts.len())?;
+                let mut starts = self.starts::<S>(start)?;
                 let since = Instant::now(self.rt)?;
-                for (subject, kept) in starts {
-                    ends.push((measured::changes(subject, keys, &change)?, kept))?;
+                for (subject, _) in &mut starts {
+                    measured::changes(subject, keys, &change)?;
                 }
                 self.tell(case, keys.len(), since)?;
             }
@@ -122,11 +129,10 @@ impl<'a> Cases<'a> {
     {
         if self.is_asked(case) {
             for _ in 0..self.rounds() {
-                let starts = self.starts::<S>(start)?;
-                let mut ends = Vec::with_capacity(self.keys.alloc, starts.len())?;
+                let mut starts = self.starts::<S>(start)?;
                 let since = Instant::now(self.rt)?;
-                for (subject, kept) in starts {
-                    ends.push((measured::versions(subject, keys, &change)?, kept))?;
+                for (subject, _) in &mut starts {
+                    measured::versions(subject, keys, &change)?;
                 }
                 self.tell(case, keys.len(), since)?;
             }
@@ -157,7 +163,31 @@ impl<'a> Cases<'a> {
         Ok(())
     }
 
-    /// One call on a container of all stored keys, and on another that was made of these.
+    /// One call on a container of all stored keys, which stays, and on another that was made of these.
+    pub fn whole<S: Subject, R: Drop, F: Fn(&mut S, &S) -> Result<R, AllocError>>(
+        &self,
+        case: &str,
+        others: &[u64],
+        call: F,
+    ) -> io::Result<()>
+        requires { F.IsAlwaysCallable call }
+    {
+        if self.is_asked(case) {
+            let other = S::of_numbers(self.keys.alloc, others)?;
+            for _ in 0..self.rounds() {
+                let mut starts = self.starts::<S>(Start::Own)?;
+                let mut ends = Vec::with_capacity(self.keys.alloc, starts.len())?;
+                let since = Instant::now(self.rt)?;
+                for (subject, _) in &mut starts {
+                    ends.push(measured::whole(subject, &other, &call)?)?;
+                }
+                self.tell(case, self.keys.stored.len(), since)?;
+            }
+        }
+        Ok(())
+    }
+
+    /// One call that takes a container of all stored keys, and another that was made of these by reference.
     pub fn call<S: Subject, R: Drop, F: Fn(S, &S) -> Result<R, AllocError>>(
         &self,
         case: &str,

@@ -101,11 +101,10 @@ pub fn run(cases: &Cases<'_>) -> io::Result<()> {
 // The cases of a whole map.
 fn run_whole(cases: &Cases<'_>) -> io::Result<()> {
     cases
-        .call("retain half", &[], |mut map: Numbers, _| {
-            map.retain(|key, _| *key % 2 == 0)?;
-            Ok(map)
+        .whole("retain half", &[], |map: &mut Numbers, _| {
+            map.retain(|key, _| *key % 2 == 0)
         })
-        .and(cases.call("map_values", &[], |map: Numbers, _| {
+        .and(cases.whole("map_values", &[], |map: &mut Numbers, _| {
             map.map_values(|value| Ok(*value))
         }))
 }
@@ -114,13 +113,26 @@ fn run_whole(cases: &Cases<'_>) -> io::Result<()> {
 fn run_two(cases: &Cases<'_>) -> io::Result<()> {
     let keys = &cases.keys.shuffled;
     cases
-        .call("union_with stored", keys, |map: Numbers, other: &Numbers| {
-            Ok((map.union_with(other, |_, ours, _| Ok(*ours))?, map))
-        })
-        .and(cases.call("merge stored", keys, |map: Numbers, other: &Numbers| {
-            let merged = map.merge(&map, other, |_, _, ours, _| Ok(ours.copied()))?;
-            Ok((merged, map))
+        .whole(
+            "union_with stored",
+            keys,
+            |map: &mut Numbers, other: &Numbers| { map.union_with(other, |_, ours, _| Ok(*ours)) },
+        )
+        .and(cases.whole("merge stored", keys, |map: &mut Numbers, other: &Numbers| {
+            let map: &Numbers = map;
+            map.merge(map, other, |_, _, ours, _| Ok(ours.copied()))
         }))
+        .and(cases.call("diff stored", keys, |map: Numbers, other: &Numbers| {
+            Ok((changes(&map, other), map))
+        }))
+}
+
+fn changes(map: &Numbers, other: &Numbers) -> u64 {
+    let mut count = 0u64;
+    for _ in map.diff(other) {
+        count = count.wrapping_add(1);
+    }
+    count
 }
 
 /// The cases of a hashed map whose keys all have one hash. Each takes a step for each of them.

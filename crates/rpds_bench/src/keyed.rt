@@ -78,15 +78,15 @@ fn run<S: Keyed>(cases: &Cases<'_>, look_up: &str, look_up_absent: &str) -> io::
             drop(map);
             Ok(())
         }))
-        .and(cases.call("iter", &[], |map: S, _| Ok((map.sum(), map))))
-        .and(cases.call(
+        .and(cases.whole("iter", &[], |map: &mut S, _| Ok(map.sum())))
+        .and(cases.whole(
             "eq",
             &keys.shuffled,
-            |map: S, other| Ok((map == *other, map)),
+            |map: &mut S, other| Ok(*map == *other),
         ))
-        .and(cases.call("eq clone", &[], |map: S, _| {
+        .and(cases.whole("eq clone", &[], |map: &mut S, _| {
             let copy = map.copied()?;
-            Ok((map == copy, map))
+            Ok(*map == copy)
         }))
 }
 
@@ -118,14 +118,14 @@ pub fn run_map<S: Map>(cases: &Cases<'_>) -> io::Result<()> {
 pub fn run_set<S: Set>(cases: &Cases<'_>) -> io::Result<()> {
     let keys = cases.keys;
     run::<S>(cases, "contains", "contains absent")
-        .and(cases.call(
+        .and(cases.whole(
             "is_subset",
             &keys.shuffled,
-            |set: S, other| Ok((set.is_subset(other), set)),
+            |set: &mut S, other| Ok(set.is_subset(other)),
         ))
-        .and(cases.call(
+        .and(cases.whole(
             "is_disjoint",
             &keys.absent,
-            |set: S, other| Ok((set.is_disjoint(other), set)),
+            |set: &mut S, other| Ok(set.is_disjoint(other)),
         ))
 }

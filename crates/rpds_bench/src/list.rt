@@ -51,20 +51,18 @@ pub fn run(cases: &Cases<'_>) -> io::Result<()> {
         pop_mut: "drop_first_mut",
     };
     sequence::run::<List<u64>>(cases, &names)
-        .and(cases.call(
-            "reverse",
-            &[],
-            |list: List<u64>, _| Ok((list.reverse()?, list)),
+        .and(cases.whole("reverse", &[], |list: &mut List<u64>, _| list.reverse()))
+        .and(cases.whole("reverse_mut", &[], |list: &mut List<u64>, _| {
+            list.reverse_mut()
+        }))
+        .and(cases.whole(
+            "append",
+            &cases.keys.stored,
+            |list: &mut List<u64>, other| {
+                if list.len().checked_add(other.len()).is_none() {
+                    return Err(AllocError);
+                }
+                list.append(other)
+            },
         ))
-        .and(cases.call("reverse_mut", &[], |list: List<u64>, _| {
-            let mut list = list;
-            list.reverse_mut()?;
-            Ok(list)
-        }))
-        .and(cases.call("append", &cases.keys.stored, |list: List<u64>, other| {
-            if list.len().checked_add(other.len()).is_none() {
-                return Err(AllocError);
-            }
-            Ok((list.append(other)?, list))
-        }))
 }

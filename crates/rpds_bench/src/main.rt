@@ -5,6 +5,7 @@
 #![tactic(auto)]
 
 mod arenas;
+mod arrays;
 mod branches;
 mod cases;
 mod edits;
@@ -76,6 +77,7 @@ fn run<'a>(cases: &Cases<'a>, few: &'a Keys) -> io::Result<()> {
         .and(hash_trie_set::run(&cases.of("HashTrieSet")))
         .and(whole_sets::run(&cases.of("HashTrieSet")))
         .and(interned::run(&cases.of("Interner")))
+        .and(arrays::run(cases))
         .and(texts::run(cases))
         .and(uses::run(cases))
         .and(arenas::run(cases))

@@ -82,9 +82,12 @@ pub fn run(cases: &Cases<'_>) -> io::Result<()> {
         pop_mut: "remove_mut last",
     };
     let positions = cases.keys.some_positions(MOST);
+    // So few that the sequence stays about as long.
+    let tenth = cases.keys.stored.len() / 10;
+    let few = cases.keys.some_positions(tenth.max(1).min(MOST));
     sequence::run::<Numbers>(cases, &names)
         .and(run_items(cases, positions))
-        .and(run_lengths(cases, positions))
+        .and(run_lengths(cases, few))
         .and(edits::run::<Numbers>(cases, positions, "split_at"))
         .and(run_searches(cases, positions))
         .and(run_wholes(cases))
@@ -175,9 +178,8 @@ fn run_wholes(cases: &Cases<'_>) -> io::Result<()> {
         .call("from_iter", &[], |_: Numbers, _| {
             Sequence::from_iter(keys.alloc, keys.stored.iter().copied())
         })
-        .and(cases.call("retain half", &[], |mut items: Numbers, _| {
-            items.retain(|item| *item % 2 == 0)?;
-            Ok(items)
+        .and(cases.whole("retain half", &[], |items: &mut Numbers, _| {
+            items.retain(|item| *item % 2 == 0)
         }))
         .and(cases.call("map", &[], |items: Numbers, _| {
             items.map(|item| Ok(*item))

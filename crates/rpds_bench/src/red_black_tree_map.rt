@@ -117,9 +117,8 @@ fn run_removals(cases: &Cases<'_>) -> io::Result<()> {
             map.pop_last_mut()?;
             Ok(())
         }))
-        .and(cases.call("retain most", &[], |mut map: Map, _| {
-            map.retain(|key, _| *key % 1024 != 0)?;
-            Ok(map)
+        .and(cases.whole("retain most", &[], |map: &mut Map, _| {
+            map.retain(|key, _| *key % 1024 != 0)
         }))
 }
 

@@ -61,7 +61,7 @@ pub fn run<S: Sequence>(cases: &Cases<'_>, names: &Names<'_>) -> io::Result<()> 
             drop(list);
             Ok(())
         }))
-        .and(cases.call("iter", &[], |list: S, _| Ok((list.sum()?, list))))
-        .and(cases.call("eq", stored, |list: S, other| Ok((list == *other, list))))
-        .and(cases.call("cmp", stored, |list: S, other| Ok((list.cmp(other), list))))
+        .and(cases.whole("iter", &[], |list: &mut S, _| list.sum()))
+        .and(cases.whole("eq", stored, |list: &mut S, other| Ok(*list == *other)))
+        .and(cases.whole("cmp", stored, |list: &mut S, other| Ok((*list).cmp(other))))
 }

@@ -87,6 +87,9 @@ fn text_of(alloc: Global, number: u64) -> Result<String, AllocError> {
 
 /// The cases of both.
 pub fn run(cases: &Cases<'_>) -> io::Result<()> {
+    if !cases.asks_for(" by ") {
+        return Ok(());
+    }
     let mut keys = Vec::new(cases.keys.alloc);
     for number in &cases.keys.shuffled {
         keys.push(text_of(cases.keys.alloc, *number)?)?;

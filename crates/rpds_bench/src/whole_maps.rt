@@ -68,22 +68,24 @@ fn size_of(made: Result<Map, AllocError>) -> u64 {
 fn run_two(cases: &Cases<'_>) -> io::Result<()> {
     let keys = cases.keys;
     cases
-        .call("union absent", &keys.absent, |map: Map, other: &Map| {
-            Ok((map.union(other)?, map))
+        .whole("union absent", &keys.absent, |map: &mut Map, other: &Map| {
+            map.union(other)
         })
-        .and(cases.call(
+        .and(cases.whole(
             "intersection stored",
             &keys.shuffled,
-            |map: Map, other: &Map| Ok((map.intersection(other)?, map)),
+            |map: &mut Map, other: &Map| map.intersection(other),
         ))
-        .and(cases.call(
+        .and(cases.whole(
             "difference absent",
             &keys.absent,
-            |map: Map, other: &Map| Ok((map.difference(other)?, map)),
+            |map: &mut Map, other: &Map| map.difference(other),
         ))
-        .and(cases.call("diff stored", &keys.shuffled, |map: Map, other: &Map| {
-            Ok((changes(&map, other), map))
-        }))
+        .and(cases.whole(
+            "diff stored",
+            &keys.shuffled,
+            |map: &mut Map, other: &Map| { Ok(changes(map, other)) },
+        ))
 }
 
 fn changes(map: &Map, other: &Map) -> u64 {
