@@ -7,6 +7,7 @@ ghost use Rattle.std.specs.Ordering.{nat_cmp};
 ghost use Rattle.rpds.specs.Pairs.{find, put};
 
 pub mod arenas;
+pub mod cited;
 pub mod forms;
 pub mod maps;
 pub mod sequences;

@@ -7,18 +7,18 @@ use std::alloc::AllocError;
 /// How deep an expression may be, and its evaluation go.
 pub const DEPTH: usize = 1000;
 
-/// An expression over names of this type.
+/// An expression, which owns its names.
 #[derive(Drop)]
-pub enum Expr<K> {
+pub enum Expr {
     Number(u64),
-    Name(K),
-    Sum(Box<Expr<K>>, Box<Expr<K>>),
+    Name(String),
+    Sum(Box<Expr>, Box<Expr>),
     /// The name stands for the value of the first in the second.
-    Let(K, Box<Expr<K>>, Box<Expr<K>>),
+    Let(String, Box<Expr>, Box<Expr>),
     /// The name stands for what the function is called with.
-    Function(K, Box<Expr<K>>),
+    Function(String, Box<Expr>),
     /// The first is called with the value of the second.
-    Call(Box<Expr<K>>, Box<Expr<K>>),
+    Call(Box<Expr>, Box<Expr>),
 }
 
 /// Why there is no value.

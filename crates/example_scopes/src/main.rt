@@ -18,13 +18,14 @@ fn word<'a>(words: &mut SplitWhitespace<'a>) -> Result<&'a str, Fault> {
     words.next().ok_or(Fault::NotUnderstood)
 }
 
+// The next word, as a name of an expression.
+fn name(alloc: Global, words: &mut SplitWhitespace<'_>) -> Result<String, Fault> {
+    Ok(String::from_str(alloc, word(words)?)?)
+}
+
 // Reads an expression that goes no deeper than this.
 #[cycle(parse)]
-fn parse<'a>(
-    alloc: Global,
-    words: &mut SplitWhitespace<'a>,
-    depth: usize,
-) -> Result<Box<Expr<&'a str>>, Fault> {
+fn parse(alloc: Global, words: &mut SplitWhitespace<'_>, depth: usize) -> Result<Box<Expr>, Fault> {
     let depth = depth.checked_sub(1).ok_or(Fault::TooDeep)?;
     let expr = match word(words)? {
         "+" => {
@@ -32,18 +33,18 @@ fn parse<'a>(
             Expr::Sum(left, right)
         }
         "let" => {
-            let name = word(words)?;
+            let name = name(alloc, words)?;
             let (value, body) = parse_two(alloc, words, depth)?;
             Expr::Let(name, value, body)
         }
-        "fn" => Expr::Function(word(words)?, parse(alloc, words, depth)?),
+        "fn" => Expr::Function(name(alloc, words)?, parse(alloc, words, depth)?),
         "call" => {
             let (function, argument) = parse_two(alloc, words, depth)?;
             Expr::Call(function, argument)
         }
         word => match word.parse() {
             Ok(number) => Expr::Number(number),
-            Err(_) => Expr::Name(word),
+            Err(_) => Expr::Name(String::from_str(alloc, word)?),
         },
     };
     Box::new(alloc, expr).ok().ok_or(Fault::NoMemory)
@@ -51,11 +52,11 @@ fn parse<'a>(
 
 // Reads two expressions, one after the other.
 #[cycle(parse)]
-fn parse_two<'a>(
+fn parse_two(
     alloc: Global,
-    words: &mut SplitWhitespace<'a>,
+    words: &mut SplitWhitespace<'_>,
     depth: usize,
-) -> Result<(Box<Expr<&'a str>>, Box<Expr<&'a str>>), Fault> {
+) -> Result<(Box<Expr>, Box<Expr>), Fault> {
     Ok((parse(alloc, words, depth)?, parse(alloc, words, depth)?))
 }
 

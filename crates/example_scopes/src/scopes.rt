@@ -8,40 +8,40 @@ use crate::expr::Fault;
 use crate::value::Value;
 use rpds::{HashTrieMap, Vector};
 use std::alloc::{AllocError, Global};
-use std::hash::Hash;
 
 /// All scopes that were made, by number: each new one shares with the one around it what they have in common.
 #[derive(Drop)]
-pub struct Scopes<'e, K: Eq + Hash> {
-    all: Vector<HashTrieMap<K, Value<'e, K>>>,
+pub struct Scopes<'e> {
+    all: Vector<HashTrieMap<String, Value<'e>>>,
 }
 
-impl<'e, K: Eq + Hash + Copy> Scopes<'e, K> {
+impl<'e> Scopes<'e> {
     /// One scope, of the number 0, in which no name stands for anything.
-    pub fn new(alloc: Global) -> Result<Scopes<'e, K>, AllocError>
-        ensures { IfOk result (λ scopes. HasNames K.eq scopes.all.items nothing 0) }
+    pub fn new(alloc: Global) -> Result<Scopes<'e>, AllocError>
+        ensures { IfOk result (λ scopes. HasNames scopes.all.items nothing 0) }
     {
         Ok(Scopes {
             all: Vector::new(alloc).push_back(HashTrieMap::new(alloc))?,
         })
     }
 
-    /// What a name stands for in the scope of this number.
-    pub fn look_up(&self, scope: usize, name: &K) -> Result<Value<'e, K>, Fault>
-        ensures { result_ok result ≡ value_of K.eq self.now.all.items scope name.now }
+    /// What a name stands for in the scope of this number. It takes no memory.
+    pub fn look_up(&self, scope: usize, name: &str) -> Result<Value<'e>, Fault>
+        ensures { result_ok result ≡ value_of self.now.all.items scope name.now }
     {
         let names = self.all.get(scope).ok_or(Fault::Unbound)?;
         names.get(name).copied().ok_or(Fault::Unbound)
     }
 
     /// Makes a scope inside another one, in which the name stands for the value, and returns its number.
-    pub fn bind(&mut self, outer: usize, name: K, value: Value<'e, K>) -> Result<usize, Fault>
+    pub fn bind(&mut self, outer: usize, name: &str, value: Value<'e>) -> Result<usize, Fault>
         ensures stay { take (length self.old.all.items) self.new.all.items ≡ self.old.all.items }
-        ensures binds { MatchResult result (Binds K.eq self.new.all.items outer name value.entry)
+        ensures binds { MatchResult result (Binds self.new.all.items outer name.now value.entry)
             (λ fault. (fault ≡ Fault.NoMemory) ⊎ (slice_get self.old.all.items outer ≡ None)) }
     {
         let number = self.all.len();
         let around = self.all.get(outer).ok_or(Fault::Unbound)?;
+        let name = String::from_str(*around.allocator(), name)?;
         let inner = around.insert(name, value)?;
         self.all.push_back_mut(inner)?;
         Ok(number)
