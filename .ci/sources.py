@@ -204,10 +204,15 @@ def type_at(stem, name):
     return next(type_at(stems[module], name) for module in modules if module in stems and stems[module] != stem)
 
 
+def without_links(text):
+    """Returns a text with the names of its links alone."""
+    return re.sub(r"\[(`[^`]*`)\](\([^)]*\))?", r"\1", text)
+
+
 def sentences(docs):
     """Returns the sentences of the first paragraph of what is said of an item, at least one, without links and citations."""
     text = " ".join(docs[: docs.index("")] if "" in docs else docs)
-    text = CITATION.sub("", re.sub(r"\[(`[^`]*`)\](\([^)]*\))?", r"\1", text))
+    text = CITATION.sub("", without_links(text))
     return re.split(r"(?<=[.]) (?=[A-Z`])", text)
 
 
@@ -231,6 +236,7 @@ REQUIRED = [
     (r"IsTrue \(fits [KT]\.cmp \(bound_copied start\) \(bound_copied end\)\)", "bounds that fit, as `range_fits` tests"),
     (r"length keeps\.now ≡ length self\.now\.(?:entries|members)", "one flag for each"),
     (r"place < 64", "a place below 64"),
+    (r"\(x y : K\) → K\.is_clone x y → K\.cmp x y ≡ Equal", "clones of keys that compare equal"),
     (r"\(\w+ : List .*\) → C\.can_from_iter \w+", "a container that any items make"),
     (r"\(c : C\) → C\.is_complete c", "that takes them all"),
 ]
@@ -259,7 +265,8 @@ def required_by(item):
 def costs_of(docs):
     """Returns what the table of a type's page has: what its costs are in, and the costs and allocations of each call. Nothing is
     said of constant costs without an allocation, and nothing of allocations where there are none, or no column of them."""
-    rows = [[cell.strip() for cell in re.split(r"(?<!\\)\|", line)[1:-1]] for line in docs if line.startswith("| ")]
+    rows = [without_links(line) for line in docs if line.startswith("| ")]
+    rows = [[cell.strip() for cell in re.split(r"(?<!\\)\|", row)[1:-1]] for row in rows]
     costs, above = collections.defaultdict(list), ""
     for calls, cost, *last in rows[1:]:
         made = last[0] if last else "none"
@@ -281,6 +288,11 @@ def handed_on_by(file):
     """Returns the names that a file has in its `pub use`."""
     used = re.findall(r"pub use (?:[^;]*::)?([^;]*);", "\n".join(lines_of(file)))
     return [name.split(" as ")[-1].strip() for names in used for name in names.strip("{}\n ,").split(",")]
+
+
+def modules_of(file):
+    """Returns the public modules that a file declares."""
+    return re.findall(r"^pub mod (\w+);", "\n".join(lines_of(file)), re.M)
 
 
 def module_used(file, name):
@@ -311,6 +323,7 @@ def amount(text, names):
     for size, words in SIZES:
         text = re.sub(size, words, text)
     text = re.sub(r"m \* (\d+)", r"\1 * m", text)
+    text = re.sub(r"2 \* (log2\([^()]*\)) \+ 2 \* \1", r"4 * \1", text)
     text = re.sub(r"(\d+) \* (\d+)", lambda both: str(int(both[1]) * int(both[2])), text)
     if text.startswith("(") and text.endswith(")"):
         text = text[1:-1]
@@ -347,8 +360,9 @@ def bound_of(twin):
     some = [(counts[kind], noun) for kind, noun in COUNTS.items() if counts.get(kind, "0") != "0"]
     some = [f"1 {noun}" if count == "1" else f"`{count}` {noun}s" for count, noun in some]
     words = [*none, *(["at most " + " and ".join(some)] if some else [])]
-    plain = re.match(r"`\w+` with counts[:.] (.)(.*?)\.?$", " ".join(sentences(twin.docs)))
-    if not words and plain:
-        words = [plain[1].lower() + plain[2]]
     beside = re.findall(r"It doesn't count (.*?)\.(?: |$)", " ".join(twin.docs))
+    said = [text for text in sentences(twin.docs) if not text.startswith("It doesn't count ")]
+    plain = re.match(r"`\w+` with counts[:.] (.)(.*?)\.?$", " ".join(said))
+    if not some and plain:
+        words = [plain[1].lower() + plain[2]]
     return ", ".join([*words, *(f"but for {text}" for text in beside)]) + "." if words else None
