@@ -1,7 +1,9 @@
-//! Tests of what stands on the containers: the examples of the README, the macros of `rpds`, containers as keys, arenas and
-//! interners, and the further calls of maps and sets.
+//! Tests of what stands on the containers: the examples of the README, the macros of `rpds`, containers as keys, the
+//! allocator of what two containers make, arenas and interners, and the further calls of maps and sets.
 #![tactic(auto)]
 
+#[cfg(test)]
+mod allocators;
 #[cfg(test)]
 mod arenas;
 #[cfg(test)]

@@ -9,15 +9,16 @@ use std::alloc::{AllocError, Allocator};
 use std::rc::Rc;
 
 impl<T: Drop, A: Allocator + Copy> List<T, A> {
-    /// The items of this list and then those of the other. It shares the cells of the other, and makes one for each item of
-    /// this list. No item is cloned. An error means that there is no memory, or that both have more items than the greatest
-    /// size.
+    /// The items of this list and then those of the other, with this list's allocator. It shares the cells of the other, and
+    /// makes one for each item of this list. No item is cloned. An error means that there is no memory, or that both have more
+    /// items than the greatest size.
     pub fn append(&self, other: &List<T, A>) -> Result<List<T, A>, AllocError>
         ensures { IfOk result (λ list. list ≡ self.now ++ other.now) }
     {
         total(self.len, other.len)?;
         let mut items = self.shared_items()?;
         let mut joined = other.clone()?;
+        joined.alloc = self.alloc;
         while let Some(item) = items.pop() {
             joined.push_front_shared(item)?;
         }
