@@ -493,9 +493,18 @@ const ROWS: &[MemoryRow<'static, SequenceCall>] = &[
         at: PLACES, limit: CUT
     ),
     memory!(Shared, calls: &[SequenceCall::Truncate], at: PLACES, limit: CUT),
+    // Behind the last item nothing is cut off.
+    memory!(
+        Alike,
+        calls: &[SequenceCall::SplitAt, SequenceCall::SplitAtCounted, SequenceCall::Skip,
+            SequenceCall::Take, SequenceCall::Truncate],
+        at: &[10_000, 10_001], limit: NOTHING
+    ),
     // A list with room for all, and a node for each that stays.
     memory!(Shared, calls: &[SequenceCall::Retain], at: &[7],
         requests: 10_000, bytes: 8 * 10_000 + 9_999 * NODE),
+    // No item has this number, so all stay: the list alone.
+    memory!(Shared, calls: &[SequenceCall::Retain], at: &[20_000], requests: 1, bytes: 8 * 10_000),
     // A list, and a node and an item for each.
     memory!(Shared, calls: &[SequenceCall::Map], at: &[7],
         requests: 20_001, bytes: 10_000 * (16 + NODE + ITEM)),
