@@ -13,15 +13,15 @@ fn is_first(alloc: &FailingAllocator) -> bool {
 // Containers of which two make others.
 trait Joined<'t>: Drop + Sized {
     // The container of these numbers.
-    fn of(alloc: &'t FailingAllocator, numbers: [u64; 3]) -> Result<Self, AllocError>;
+    fn of(alloc: &'t FailingAllocator, numbers: &[u64]) -> Result<Self, AllocError>;
 
     // Whether each that the two make has the first one's allocator.
     fn keeps_the_first(&self, other: &Self) -> Result<bool, AllocError>;
 }
 
 impl<'t> Joined<'t> for List<u64, &'t FailingAllocator> {
-    fn of(alloc: &'t FailingAllocator, numbers: [u64; 3]) -> Result<Self, AllocError> {
-        List::from_iter(alloc, numbers)
+    fn of(alloc: &'t FailingAllocator, numbers: &[u64]) -> Result<Self, AllocError> {
+        List::from_iter(alloc, numbers.iter().copied())
     }
 
     fn keeps_the_first(&self, other: &Self) -> Result<bool, AllocError> {
@@ -33,8 +33,8 @@ impl<'t> Joined<'t> for List<u64, &'t FailingAllocator> {
 }
 
 impl<'t> Joined<'t> for Vector<u64, &'t FailingAllocator> {
-    fn of(alloc: &'t FailingAllocator, numbers: [u64; 3]) -> Result<Self, AllocError> {
-        Vector::from_iter(alloc, numbers)
+    fn of(alloc: &'t FailingAllocator, numbers: &[u64]) -> Result<Self, AllocError> {
+        Vector::from_iter(alloc, numbers.iter().copied())
     }
 
     fn keeps_the_first(&self, other: &Self) -> Result<bool, AllocError> {
@@ -44,8 +44,8 @@ impl<'t> Joined<'t> for Vector<u64, &'t FailingAllocator> {
 }
 
 impl<'t> Joined<'t> for Sequence<u64, &'t FailingAllocator> {
-    fn of(alloc: &'t FailingAllocator, numbers: [u64; 3]) -> Result<Self, AllocError> {
-        Sequence::from_iter(alloc, numbers)
+    fn of(alloc: &'t FailingAllocator, numbers: &[u64]) -> Result<Self, AllocError> {
+        Sequence::from_iter(alloc, numbers.iter().copied())
     }
 
     fn keeps_the_first(&self, other: &Self) -> Result<bool, AllocError> {
@@ -56,8 +56,8 @@ impl<'t> Joined<'t> for Sequence<u64, &'t FailingAllocator> {
 }
 
 impl<'t> Joined<'t> for RedBlackTreeSet<u64, &'t FailingAllocator> {
-    fn of(alloc: &'t FailingAllocator, numbers: [u64; 3]) -> Result<Self, AllocError> {
-        RedBlackTreeSet::from_iter(alloc, numbers)
+    fn of(alloc: &'t FailingAllocator, numbers: &[u64]) -> Result<Self, AllocError> {
+        RedBlackTreeSet::from_iter(alloc, numbers.iter().copied())
     }
 
     fn keeps_the_first(&self, other: &Self) -> Result<bool, AllocError> {
@@ -71,7 +71,7 @@ impl<'t> Joined<'t> for RedBlackTreeSet<u64, &'t FailingAllocator> {
 }
 
 impl<'t> Joined<'t> for RedBlackTreeMap<u64, u64, &'t FailingAllocator> {
-    fn of(alloc: &'t FailingAllocator, numbers: [u64; 3]) -> Result<Self, AllocError> {
+    fn of(alloc: &'t FailingAllocator, numbers: &[u64]) -> Result<Self, AllocError> {
         RedBlackTreeMap::from_iter(alloc, numbers.iter().map(|number| (*number, 1)))
     }
 
@@ -88,8 +88,8 @@ impl<'t> Joined<'t> for RedBlackTreeMap<u64, u64, &'t FailingAllocator> {
 
 // `^` isn't here: of the other's members, it takes a set that the other's allocator makes.
 impl<'t> Joined<'t> for HashTrieSet<u64, DefaultBuildHasher, &'t FailingAllocator> {
-    fn of(alloc: &'t FailingAllocator, numbers: [u64; 3]) -> Result<Self, AllocError> {
-        HashTrieSet::from_iter(alloc, numbers)
+    fn of(alloc: &'t FailingAllocator, numbers: &[u64]) -> Result<Self, AllocError> {
+        HashTrieSet::from_iter(alloc, numbers.iter().copied())
     }
 
     fn keeps_the_first(&self, other: &Self) -> Result<bool, AllocError> {
@@ -102,7 +102,7 @@ impl<'t> Joined<'t> for HashTrieSet<u64, DefaultBuildHasher, &'t FailingAllocato
 }
 
 impl<'t> Joined<'t> for HashTrieMap<u64, u64, DefaultBuildHasher, &'t FailingAllocator> {
-    fn of(alloc: &'t FailingAllocator, numbers: [u64; 3]) -> Result<Self, AllocError> {
+    fn of(alloc: &'t FailingAllocator, numbers: &[u64]) -> Result<Self, AllocError> {
         HashTrieMap::from_iter(alloc, numbers.iter().map(|number| (*number, 1)))
     }
 
@@ -117,8 +117,14 @@ impl<'t> Joined<'t> for HashTrieMap<u64, u64, DefaultBuildHasher, &'t FailingAll
     }
 }
 
-// One of these lists has one of the first container's numbers, one has none, and one has all.
-const OTHERS: [[u64; 3]; 3] = [[3, 4, 5], [6, 7, 8], [1, 2, 3]];
+// The other container's numbers: some of the first one's, none of them, all, none at all, and more.
+const OTHERS: [&[u64]; 5] = [
+    &[3, 4, 5],
+    &[6, 7, 8],
+    &[1, 2, 3],
+    &[],
+    &[0, 1, 2, 3, 4, 5, 6, 7],
+];
 
 fn assert_joined<'t, C: Joined<'t>>(
     rt: &impl Abort,
@@ -126,10 +132,10 @@ fn assert_joined<'t, C: Joined<'t>>(
     theirs: &'t FailingAllocator,
 ) {
     ours.refuse(u64::MAX);
-    let one = C::of(ours, [1, 2, 3]).expect(rt, "ample memory");
+    let one = C::of(ours, &[1, 2, 3]).expect(rt, "ample memory");
     for numbers in &OTHERS {
         theirs.refuse(u64::MAX);
-        let other = C::of(theirs, *numbers).expect(rt, "ample memory");
+        let other = C::of(theirs, numbers).expect(rt, "ample memory");
         theirs.refuse(1);
         let is_kept = one.keeps_the_first(&other);
         assert!(rt; is_kept.expect(rt, "no request to the other's allocator"));

@@ -31,8 +31,10 @@ impl<K: Ord + Drop, V: Drop, A: Allocator + Copy> RedBlackTreeMap<K, V, A> {
         Ok(Measured { tree, height })
     }
 
-    // What is kept of two maps, where all is that the first one alone has. It walks the first one, and cuts the second one.
+    // What is kept of two maps, where all is that the first one alone has. It walks the first one, and cuts the second one. The nodes
+    // that it makes come from the allocator that is given.
     fn walked(
+        alloc: A,
         walked: &RedBlackTreeMap<K, V, A>,
         kept: Kept,
         cut: &RedBlackTreeMap<K, V, A>,
@@ -53,7 +55,7 @@ impl<K: Ord + Drop, V: Drop, A: Allocator + Copy> RedBlackTreeMap<K, V, A> {
         whole.tree.prove_low_rank();
         let combined = whole
             .tree
-            .combine(walked.alloc, kept, whole.height, &pieces, steps)?;
+            .combine(alloc, kept, whole.height, &pieces, steps)?;
         match combined {
             None => Ok(whole.tree),
             Some(combined) => Ok(combined.tree.into_black()),
@@ -63,6 +65,7 @@ impl<K: Ord + Drop, V: Drop, A: Allocator + Copy> RedBlackTreeMap<K, V, A> {
     // What is kept of two maps, where nothing is that the second one alone has: each key of the first one is looked up in the
     // second one.
     fn looked_up(
+        alloc: A,
         walked: &RedBlackTreeMap<K, V, A>,
         kept: Kept,
         other: &RedBlackTreeMap<K, V, A>,
@@ -78,13 +81,12 @@ impl<K: Ord + Drop, V: Drop, A: Allocator + Copy> RedBlackTreeMap<K, V, A> {
         ensures compares { OnOk result (walked.now.entries ≢ [] → other.now.entries ≢ []
             → steps.old.compared < steps.new.compared) }
     {
-        walked
-            .tree
-            .look_up_all(walked.alloc, kept, &other.tree, steps)
+        walked.tree.look_up_all(alloc, kept, &other.tree, steps)
     }
 
     // The same of a first map that may be large. It walks the first one, and looks into the second one.
     fn sifted(
+        alloc: A,
         walked: &RedBlackTreeMap<K, V, A>,
         kept: Kept,
         cut: &RedBlackTreeMap<K, V, A>,
@@ -101,14 +103,12 @@ impl<K: Ord + Drop, V: Drop, A: Allocator + Copy> RedBlackTreeMap<K, V, A> {
             → steps.old.compared < steps.new.compared) }
     {
         if walked.size <= kept.most_looked_up() as usize {
-            return RedBlackTreeMap::looked_up(walked, kept, cut, steps);
+            return RedBlackTreeMap::looked_up(alloc, walked, kept, cut, steps);
         }
         let others = cut.measured()?;
         let whole = walked.measured()?;
         others.tree.prove_low_rank();
-        let sifted = whole
-            .tree
-            .sift(walked.alloc, kept, whole.height, &others, steps)?;
+        let sifted = whole.tree.sift(alloc, kept, whole.height, &others, steps)?;
         Ok(sifted.tree.into_black())
     }
 
@@ -133,13 +133,13 @@ impl<K: Ord + Drop, V: Drop, A: Allocator + Copy> RedBlackTreeMap<K, V, A> {
     {
         let is_larger = self.size > other.size || (kept.cut && self.size == other.size);
         if kept.walked && is_larger {
-            RedBlackTreeMap::walked(self, kept, other, steps)
+            RedBlackTreeMap::walked(self.alloc, self, kept, other, steps)
         } else if kept.cut && self.size <= other.size {
-            RedBlackTreeMap::walked(other, kept.turned(), self, steps)
+            RedBlackTreeMap::walked(self.alloc, other, kept.turned(), self, steps)
         } else if self.size <= other.size {
-            RedBlackTreeMap::sifted(self, kept, other, steps)
+            RedBlackTreeMap::sifted(self.alloc, self, kept, other, steps)
         } else {
-            RedBlackTreeMap::sifted(other, kept.turned(), self, steps)
+            RedBlackTreeMap::sifted(self.alloc, other, kept.turned(), self, steps)
         }
     }
 
