@@ -223,3 +223,13 @@ fn parts_of_a_map_share_its_nodes(rt: HostRuntime) {
     assert!(rt; is_joined(&rt, &map, 2_500) && requests(&alloc) < 100);
     assert!(rt; united_size(&rt, &map, 5_000, &alloc) == 9_999 && requests(&alloc) < 1_000);
 }
+
+// An iterator may have many items, and has few: memory for so many as it says that it has at least is asked for.
+#[test]
+fn few_of_many_numbers_take_little_memory(rt: HostRuntime) {
+    let alloc = FailingAllocator::new(rt.alloc());
+    let few = (0..100_000u64).filter(|number| *number % 50_000 == 0);
+    let pairs = few.map(|number| (number, number));
+    let map: CountedMap<'_> = RedBlackTreeMap::from_iter(&alloc, pairs).expect(&rt, "ample memory");
+    assert!(&rt; map.size() == 2 && alloc.bytes() < 1_000);
+}
